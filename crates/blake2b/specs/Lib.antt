@@ -1,0 +1,6 @@
+pub mod Words
+pub mod Constants
+pub mod Blake2b
+pub mod Message
+pub mod Digest
+pub mod Vectors

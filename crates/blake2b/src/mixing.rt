@@ -1,0 +1,111 @@
+// RFC 7693 section 3.1: the mixing function G on the work vector, and the rounds made of it.
+use std::num::wrapping_add_u64;
+
+ghost use mathlib.Core.Path.{_≡_};
+ghost use Prim.Native.Nat.{_+_, _*_, _%_, _<_, _^_};
+ghost use lib.ListN.{getD};
+ghost use Rattle.blake2b.specs.Words.{xor, rotr};
+ghost use Rattle.blake2b.specs.Constants.{SIGMA};
+ghost use Rattle.blake2b.specs.Blake2b.{addWord, add, turn, G, round, rounds};
+
+const SIGMA: [u8; 160] = [
+    0, 1, 2, 3, 4, 5, 6, 7, 8, 9, 10, 11, 12, 13, 14, 15,
+    14, 10, 4, 8, 9, 15, 13, 6, 1, 12, 0, 2, 11, 7, 5, 3,
+    11, 8, 12, 0, 5, 2, 15, 13, 10, 14, 3, 6, 7, 1, 9, 4,
+    7, 9, 3, 1, 13, 12, 11, 14, 2, 6, 5, 10, 4, 0, 15, 8,
+    9, 0, 5, 7, 2, 4, 10, 15, 14, 1, 11, 12, 6, 8, 3, 13,
+    2, 12, 6, 10, 0, 11, 8, 3, 4, 13, 7, 5, 15, 14, 1, 9,
+    12, 5, 1, 15, 14, 13, 4, 10, 0, 7, 6, 3, 9, 2, 8, 11,
+    13, 11, 7, 14, 12, 1, 3, 9, 5, 0, 15, 4, 8, 6, 2, 10,
+    6, 15, 14, 9, 11, 3, 0, 8, 12, 2, 13, 7, 1, 4, 10, 5,
+    10, 2, 8, 4, 7, 6, 1, 5, 15, 11, 9, 14, 3, 12, 13, 0,
+];
+
+// x ^ y.
+pub(crate) fn xor(x: u64, y: u64) -> u64
+    ensures { λ r. ⌜ r ≡ xor x y ⌝ }
+{
+    x ^ y
+}
+
+// x >>> n.
+fn rotr(x: u64, n: u64) -> u64
+    requires { ⌜ (0 < n) × (n < 64) ⌝ }
+    ensures { λ r. ⌜ r ≡ rotr x n ⌝ }
+{
+    xor(x >> n, x << (64 - n))
+}
+
+// v[a] := v[a] + v[b] + x, modulo 2^64.
+fn add_word(v: &mut [u64; 16], a: usize, b: usize, x: u64)
+    requires { ⌜ (a < 16) × (b < 16) ⌝ }
+    ensures { λ _. ⌜ now (v .exit) ≡ addWord a b x (now (v .entry)) ⌝ }
+{
+    v[a] = wrapping_add_u64(wrapping_add_u64(v[a], v[b]), x);
+}
+
+// v[c] := v[c] + v[d], modulo 2^64.
+fn add(v: &mut [u64; 16], c: usize, d: usize)
+    requires { ⌜ (c < 16) × (d < 16) ⌝ }
+    ensures { λ _. ⌜ now (v .exit) ≡ add c d (now (v .entry)) ⌝ }
+{
+    v[c] = wrapping_add_u64(v[c], v[d]);
+}
+
+// v[d] := (v[d] ^ v[a]) >>> n.
+fn turn(v: &mut [u64; 16], d: usize, a: usize, n: u64)
+    requires { ⌜ (d < 16) × ((a < 16) × ((0 < n) × (n < 64))) ⌝ }
+    ensures { λ _. ⌜ now (v .exit) ≡ turn d a n (now (v .entry)) ⌝ }
+{
+    v[d] = rotr(xor(v[d], v[a]), n);
+}
+
+// The mixing function G.
+fn mix(v: &mut [u64; 16], a: usize, b: usize, c: usize, d: usize, x: u64, y: u64)
+    requires { ⌜ ((a < 16) × (b < 16)) × ((c < 16) × (d < 16)) ⌝ }
+    ensures { λ _. ⌜ now (v .exit) ≡ G (now (v .entry)) a b c d x y ⌝ }
+{
+    add_word(v, a, b, x);
+    turn(v, d, a, 32);
+    add(v, c, d);
+    turn(v, b, c, 24);
+    add_word(v, a, b, y);
+    turn(v, d, a, 16);
+    add(v, c, d);
+    turn(v, b, c, 63);
+}
+
+// The message word at SIGMA[i][j].
+fn scheduled(m: &[u64; 16], i: usize, j: usize) -> u64
+    requires { ⌜ (i < 10) × (j < 16) ⌝ }
+    ensures { λ r. ⌜ r ≡ getD (now (m .entry)) (getD SIGMA (16 * i + j) 0) 0 ⌝ }
+{
+    let k = SIGMA[16 * i + j] as usize;
+    m[k]
+}
+
+// One round, with row i of SIGMA: four columns, then four diagonals.
+fn round(v: &mut [u64; 16], m: &[u64; 16], i: usize)
+    requires { ⌜ i < 10 ⌝ }
+    ensures { λ _. ⌜ now (v .exit) ≡ round (now (m .entry)) i (now (v .entry)) ⌝ }
+{
+    mix(v, 0, 4, 8, 12, scheduled(m, i, 0), scheduled(m, i, 1));
+    mix(v, 1, 5, 9, 13, scheduled(m, i, 2), scheduled(m, i, 3));
+    mix(v, 2, 6, 10, 14, scheduled(m, i, 4), scheduled(m, i, 5));
+    mix(v, 3, 7, 11, 15, scheduled(m, i, 6), scheduled(m, i, 7));
+    mix(v, 0, 5, 10, 15, scheduled(m, i, 8), scheduled(m, i, 9));
+    mix(v, 1, 6, 11, 12, scheduled(m, i, 10), scheduled(m, i, 11));
+    mix(v, 2, 7, 8, 13, scheduled(m, i, 12), scheduled(m, i, 13));
+    mix(v, 3, 4, 9, 14, scheduled(m, i, 14), scheduled(m, i, 15));
+}
+
+// All twelve rounds.
+pub(crate) fn twelve_rounds(v: &mut [u64; 16], m: &[u64; 16])
+    ensures { λ _. ⌜ now (v .exit) ≡ rounds (now (m .entry)) 12 (now (v .entry)) ⌝ }
+{
+    let mut i = 0;
+    while i < 12 {
+        round(v, m, i % 10);
+        i += 1;
+    }
+}

@@ -1,0 +1,103 @@
+-- A run of bytes put into a byte area. Everything that is written into lent memory is a `put`: a number, a copy and a fill alike. So what a write
+-- leaves alone is said once. Assumes nothing.
+use mathlib.Core.Path.{_≡_, refl, sym, _∙_}
+use mathlib.Core.Logic.{_≢_}
+use mathlib.Core.List.{List, [], _∷_, _++_}
+use Prim.Native.Nat.{ℕ, zero, suc, _+_, _-_, _≤_, _<_}
+use native.Mathlib.Nat.{add-assoc, add-zero, zero-add}
+use native.Mathlib.Numerals.{add-one}
+use native.Mathlib.Omega.{arith}
+use lib.ListN.{length, getD, set, take, drop, replicate, length-set, take-append-drop, drop-of-length-le}
+use lib.Seq.{getD-set-same, getD-set-other, drop-cons, append-snoc, take-append-seam, drop-at, length-take-le, take-suc-set, take-set-le, drop-set-lt}
+
+-- s, with bs in the place of what stands from at on
+unfoldable pub put : List ℕ → ℕ → List ℕ → List ℕ
+put s at [] = s
+put s at (b ∷ bs) = put (set s at b) (at + 1) bs
+
+-- ---- what a put keeps and what it writes
+
+pub length-put : (s : List ℕ) (at : ℕ) (bs : List ℕ) → length (put s at bs) ≡ length s
+unfolding put
+length-put s at [] = refl
+length-put s at (b ∷ bs) = length-put (set s at b) (at + 1) bs ∙ length-set s at b
+
+-- a byte outside: the side condition is linear
+pub getD-put-other : (s : List ℕ) (at : ℕ) (bs : List ℕ) (i d : ℕ) → (at ≤ i → at + length bs ≤ i) → getD (put s at bs) i d ≡ getD s i d
+unfolding put
+getD-put-other s at [] i d h = refl
+getD-put-other s at (b ∷ bs) i d h =
+    let e : i ≢ at = λ q. omega (arith, h (omega arith)) in
+    getD-put-other (set s at b) (at + 1) bs i d (λ l. omega (arith, h (omega arith))) ∙ getD-set-other s at i b d e
+
+-- a byte inside
+pub getD-put-in : (s : List ℕ) (at : ℕ) (bs : List ℕ) (j d : ℕ) → at + length bs ≤ length s → j < length bs → getD (put s at bs) (at + j) d ≡ getD bs j d
+unfolding put
+getD-put-in s at [] j d h l = absurd (omega arith)
+getD-put-in s at (b ∷ bs) zero d h l =
+    rw add-zero
+    (getD-put-other (set s at b) (at + 1) bs at d (λ q. omega arith) ∙ getD-set-same s at b d (omega arith))
+getD-put-in s at (b ∷ bs) (suc j) d h l =
+    let e : at + suc j ≡ at + 1 + j = omega arith in
+    rw e (getD-put-in (set s at b) (at + 1) bs j d (simp length-set (omega arith)) (omega arith))
+
+-- two runs, one behind the other
+pub put-append : (s : List ℕ) (at : ℕ) (xs ys : List ℕ) → put s at (xs ++ ys) ≡ put (put s at xs) (at + length xs) ys
+unfolding put
+put-append s at [] ys = rw add-zero
+put-append s at (x ∷ xs) ys =
+    let e : at + suc (length xs) ≡ at + 1 + length xs = omega arith in
+    rw e (put-append (set s at x) (at + 1) xs ys)
+
+-- an area that is long enough, cut around the run
+pub put-is : (s : List ℕ) (at : ℕ) (bs : List ℕ) → at + length bs ≤ length s → put s at bs ≡ take at s ++ (bs ++ drop (at + length bs) s)
+unfolding put
+put-is s at [] h = rw add-zero (sym (take-append-drop at s))
+put-is s at (b ∷ bs) h =
+    let e : at + suc (length bs) ≡ at + 1 + length bs = omega arith in
+    let rest : drop (at + 1 + length bs) (set s at b) ≡ drop (at + 1 + length bs) s = drop-set-lt (at + 1 + length bs) s at b (omega arith) in
+    let front : take (at + 1) (set s at b) ≡ take at s ++ (b ∷ []) = rw add-one (take-suc-set s at b (omega arith)) in
+    rw (put-is (set s at b) (at + 1) bs (simp length-set (omega arith)), rest, front, e)
+    (append-snoc (take at s) b (bs ++ drop (at + 1 + length bs) s))
+
+-- a run put at the front: the run, and what stood behind it
+pub put-front : (s bs : List ℕ) → length bs ≤ length s → put s 0 bs ≡ bs ++ drop (length bs) s
+put-front s bs h = put-is s 0 bs (omega arith) ∙ rw (zero-add (length bs))
+
+-- the part that was put, and the parts before and behind it
+pub part-put : (s : List ℕ) (at : ℕ) (bs : List ℕ) → at + length bs ≤ length s → take (length bs) (drop at (put s at bs)) ≡ bs
+part-put s at bs h =
+    rw (put-is s at bs h, drop-at (take at s) (bs ++ drop (at + length bs) s) at (length-take-le at s (omega arith)))
+    (take-append-seam bs (drop (at + length bs) s))
+
+pub take-put-below : (n : ℕ) (s : List ℕ) (at : ℕ) (bs : List ℕ) → n ≤ at → take n (put s at bs) ≡ take n s
+unfolding put
+take-put-below n s at [] h = refl
+take-put-below n s at (b ∷ bs) h = take-put-below n (set s at b) (at + 1) bs (omega arith) ∙ take-set-le n s at b h
+
+pub drop-put-above : (n : ℕ) (s : List ℕ) (at : ℕ) (bs : List ℕ) → at + length bs ≤ n → drop n (put s at bs) ≡ drop n s
+unfolding put
+drop-put-above n s at [] h = refl
+drop-put-above n s at (b ∷ bs) h = drop-put-above n (set s at b) (at + 1) bs (omega arith) ∙ drop-set-lt n s at b (omega arith)
+
+-- ---- the turns of the loops that copy and fill
+
+pub put-step : (s : List ℕ) (at : ℕ) (src : List ℕ) (j : ℕ) → j < length src → put s (at + j) (drop j src) ≡ put (set s (at + j) (getD src j 0)) (at + (j + 1)) (drop (j + 1) src)
+unfolding put
+put-step s at src j h = rw (drop-cons src j 0 h, ← add-assoc, ← add-one)
+
+pub put-end : (s : List ℕ) (at : ℕ) (src : List ℕ) (j : ℕ) → length src ≤ j → put s (at + j) (drop j src) ≡ s
+unfolding put
+put-end s at src j h = rw (drop-of-length-le src h)
+
+pub fill-step : (s : List ℕ) (i to : ℕ) → i < to → put s i (replicate (to - i) 0) ≡ put (set s i 0) (i + 1) (replicate (to - (i + 1)) 0)
+unfolding put
+fill-step s i to h =
+    let e : to - i ≡ suc (to - (i + 1)) = omega arith in
+    rw e
+
+pub fill-end : (s : List ℕ) (i to : ℕ) → to ≤ i → put s i (replicate (to - i) 0) ≡ s
+unfolding put
+fill-end s i to h =
+    let e : to - i ≡ 0 = omega arith in
+    rw e
