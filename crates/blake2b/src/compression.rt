@@ -1,6 +1,6 @@
 // RFC 7693 section 3.2: the compression function F.
-use crate::mixing::{twelve_rounds, xor};
-
+use crate::mixing::twelve_rounds;
+use crate::mixing::xor;
 ghost use mathlib.Core.Path.{_≡_};
 ghost use Prim.Native.Nat.{_+_, _<_};
 ghost use lib.ListN.{length};

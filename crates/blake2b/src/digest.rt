@@ -1,8 +1,9 @@
 // RFC 7693 section 3.3: the digest of a key and a message.
-use crate::compression::{IV, compress};
-use crate::message::{block_at, key_room};
+use crate::compression::IV;
+use crate::compression::compress;
+use crate::message::block_at;
+use crate::message::key_room;
 use crate::mixing::xor;
-
 ghost use mathlib.Core.Path.{_≡_};
 ghost use mathlib.Core.List.{_++_};
 ghost use Prim.Native.Nat.{_+_, _-_, _≤_};
@@ -52,10 +53,10 @@ fn bytes_of(h: &[u64; 8]) -> [u8; 64]
 fn absorb(nn: usize, key: &[u8], head: &[u8], tail: &[u8]) -> [u64; 8]
     requires { ⌜ (nn ≤ 64) × Lengths (length (now key)) (length (now head)) (length (now tail)) ⌝ }
     ensures { λ r. ⌜
-      r ≡
-      finished (start (length (now (key .entry))) nn)
-      (keyed (now (key .entry)) ++ (now (head .entry) ++ now (tail .entry)))
-      (dd (length (now (key .entry))) (length (now (head .entry)) + length (now (tail .entry))) - 1) ⌝ }
+        r ≡
+        finished (start (length (now (key .entry))) nn)
+        (keyed (now (key .entry)) ++ (now (head .entry) ++ now (tail .entry)))
+        (dd (length (now (key .entry))) (length (now (head .entry)) + length (now (tail .entry))) - 1) ⌝ }
 {
     let total = key_room(key) + head.len() + tail.len();
     let mut h = start(key.len(), nn);

@@ -3,9 +3,11 @@
 //
 // `specs/` is sections 2 and 3 of the RFC in pure definitions, with its names; the code is proved
 // equal to them, and nothing is assumed.
-mod mixing;
 mod compression;
-mod message;
 mod digest;
+mod message;
+mod mixing;
 
-pub use digest::{Hashed, blake2b, blake2b_headed};
+pub use digest::Hashed;
+pub use digest::blake2b;
+pub use digest::blake2b_headed;

@@ -3,7 +3,6 @@
 // what they must be: the RFC's own two values, and the rest from Python's hashlib.
 use blake2b::Hashed;
 use libc::STDOUT_FILENO;
-
 ghost use Prim.Native.Nat.{_≤_};
 ghost use lib.ListN.{length};
 

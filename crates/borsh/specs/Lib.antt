@@ -1,0 +1,2 @@
+pub mod Encoding
+pub mod Taking

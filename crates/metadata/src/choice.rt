@@ -1,0 +1,81 @@
+// Which of the two metadata files counts: left if its epoch is larger, else right.
+use crate::decode::Decoded;
+use crate::decode::decode_list;
+use crate::list::TapeList;
+use crate::record::Reading;
+use crate::record::read_record;
+ghost use mathlib.Core.Path.{_≡_};
+ghost use Rattle.metadata.specs.Struct.{decodedOf};
+ghost use Rattle.metadata.specs.Record.{readRecord};
+ghost use Rattle.metadata.specs.Choice.{epochOf, partOf, chosen, nextSide, chosenEpoch, chosenList};
+
+pub enum Side {
+    Left,
+    Right,
+}
+
+fn epoch_in(s: &[u8]) -> u64
+    ensures { λ r. ⌜ r ≡ epochOf (readRecord (now (s .entry))) ⌝ }
+{
+    match read_record(s) {
+        Reading::Whole { epoch, list: _ } => epoch,
+        Reading::Empty => 0,
+    }
+}
+
+// The record at the front of a file, without what stands behind it; empty where nothing counts.
+fn record_part<'a>(s: &'a [u8]) -> &'a [u8]
+    ensures { λ r. ⌜ now r ≡ partOf (now (s .entry)) (readRecord (now (s .entry))) ⌝ }
+{
+    match read_record(s) {
+        Reading::Whole { epoch: _, list } => {
+            let end = 48 + list;
+            &s[..end]
+        }
+        Reading::Empty => &s[..0],
+    }
+}
+
+// The record that counts, as the caller's own bytes.
+pub fn pick<'a>(left: &'a [u8], right: &'a [u8]) -> &'a [u8]
+    ensures { λ r. ⌜ now r ≡ chosen (now (left .entry)) (now (right .entry)) ⌝ }
+{
+    if epoch_in(right) < epoch_in(left) {
+        return record_part(left);
+    }
+    record_part(right)
+}
+
+// The file that the next record goes to: the one that was not picked.
+pub fn next_side(left: &[u8], right: &[u8]) -> Side
+    ensures { λ r. ⌜ r ≡ nextSide (now (left .entry)) (now (right .entry)) ⌝ }
+{
+    if epoch_in(right) < epoch_in(left) {
+        return Side::Right;
+    }
+    Side::Left
+}
+
+// The epoch of a record that was picked; 0 where nothing counts.
+pub fn epoch_of(record: &[u8]) -> u64
+    ensures { λ r. ⌜ r ≡ chosenEpoch (now («record» .entry)) ⌝ }
+{
+    if record.len() < 48 {
+        return 0;
+    }
+    octets::u64_at(record, 36)
+}
+
+// The list of a record that was picked; the empty one where nothing counts.
+pub fn list_of(record: &[u8]) -> Decoded
+    ensures { λ r. ⌜ r ≡ decodedOf (chosenList (now («record» .entry))) ⌝ }
+{
+    if record.len() < 48 {
+        let list = TapeList::empty();
+        return Decoded {
+            readable: true,
+            list: list,
+        };
+    }
+    decode_list(&record[48..])
+}

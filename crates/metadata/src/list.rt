@@ -1,0 +1,52 @@
+// The list of tapes as a value, with its limits.
+ghost use mathlib.Core.Path.{_≡_};
+ghost use mathlib.Core.List.{[]};
+ghost use Rattle.metadata.specs.Struct.{blank, listOf};
+
+// One tape of the list.
+pub struct TapeMetadata {
+    // How many bytes of `name` are the name; zeros stand behind them.
+    pub letters: usize,
+    pub name: [u8; 24],
+    pub len: u64,
+    pub start: u64,
+}
+
+// At most eight tapes, by name in byte order; blank ones stand behind the first `count`.
+pub struct TapeList {
+    pub count: usize,
+    pub tapes: [TapeMetadata; 8],
+}
+
+impl TapeMetadata {
+    pub const MOST_LETTERS: usize = 24;
+
+    pub fn blank() -> Self
+        ensures { λ r. ⌜ r ≡ blank ⌝ }
+    {
+        TapeMetadata {
+            letters: 0,
+            name: [0; 24],
+            len: 0,
+            start: 0,
+        }
+    }
+}
+
+impl TapeList {
+    pub const MOST_NAMES: usize = 8;
+
+    pub const MOST_LIST_BYTES: usize = 356;
+
+    pub const MOST_RECORD_BYTES: usize = 404;
+
+    pub fn empty() -> Self
+        ensures { λ r. ⌜ r ≡ listOf [] ⌝ }
+    {
+        let tapes = [TapeMetadata::blank(); 8];
+        TapeList {
+            count: 0,
+            tapes: tapes,
+        }
+    }
+}
