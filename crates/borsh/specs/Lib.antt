@@ -1,2 +1,4 @@
 pub mod Encoding
 pub mod Taking
+pub mod Laws
+pub mod Back

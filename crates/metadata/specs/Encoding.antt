@@ -1,4 +1,4 @@
--- What a request to write a list or a record answers, and what the caller's buffer then holds. Assumes nothing.
+-- What a request to write answers, and what the caller's buffer then holds. Assumes nothing.
 use mathlib.Core.Bool.{Bool, true, false}
 use mathlib.Core.List.{List}
 use Prim.Native.Nat.{ℕ}
@@ -10,7 +10,6 @@ use Rattle.metadata.specs.declared.encode.Encoded.{Encoded}
 use Rattle.metadata.specs.declared.encode.Encoded.the-variants.{Written, NotStorable, NoRoom}
 use Rattle.metadata.specs.Tapes.{encodeList}
 use Rattle.metadata.specs.Struct.{storable, tapesOf}
-use Rattle.metadata.specs.Record.{encodeRecord}
 
 -- an answer, and every byte of the buffer after it
 pub record After : Type 0 where
@@ -33,6 +32,3 @@ writes list bytes out =
 
 abbrev pub writesList : TapeList → List ℕ → After
 writesList list out = writes list (encodeList (tapesOf list)) out
-
-abbrev pub writesRecord : ℕ → TapeList → List ℕ → After
-writesRecord epoch list out = writes list (encodeRecord epoch (encodeList (tapesOf list))) out

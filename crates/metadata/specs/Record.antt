@@ -12,8 +12,12 @@ use Rattle.borsh.specs.declared.TakenBytes.{TakenBytes}
 use Rattle.borsh.specs.declared.TakenBytes.the-variants.{Bytes, ShortBytes}
 use Rattle.borsh.specs.Encoding.{u32, u64, array, vec}
 use Rattle.borsh.specs.Taking.{takeNumber, takeArray, takeVec}
+use Rattle.metadata.specs.declared.list.TapeList.{TapeList}
 use Rattle.metadata.specs.declared.record.Reading.{Reading}
 use Rattle.metadata.specs.declared.record.Reading.the-variants.{Whole, Empty}
+use Rattle.metadata.specs.Tapes.{encodeList}
+use Rattle.metadata.specs.Struct.{tapesOf}
+use Rattle.metadata.specs.Encoding.{After, writes}
 
 -- "epoch" and "tapes"
 abbrev pub EPOCH : List ℕ
@@ -29,6 +33,9 @@ hashOf epoch list = blake2b 32 [] ((EPOCH ++ (u64 epoch ++ TAPES)) ++ list)
 -- the struct StoredMetadata
 unfoldable pub encodeRecord : ℕ → List ℕ → List ℕ
 encodeRecord epoch list = u32 1 ++ (array (hashOf epoch list) ++ (u64 epoch ++ vec list))
+
+abbrev pub writesRecord : ℕ → TapeList → List ℕ → After
+writesRecord epoch list out = writes list (encodeRecord epoch (encodeList (tapesOf list))) out
 
 -- ---- reading: "short data or a wrong hash counts as epoch 0 with an empty list; bytes after the record are ignored. The stored version is not
 -- looked at."

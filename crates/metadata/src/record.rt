@@ -21,8 +21,8 @@ ghost use Prim.Native.Nat.{_+_, _≤_, _<_, _^_};
 ghost use lib.ListN.{length};
 ghost use Rattle.octets.specs.Bytes.{put};
 ghost use Rattle.octets.specs.Compare.{sameBytes};
-ghost use Rattle.metadata.specs.Record.{hashOf, encodeRecord, readRecord};
-ghost use Rattle.metadata.specs.Encoding.{after, writesRecord};
+ghost use Rattle.metadata.specs.Record.{hashOf, encodeRecord, writesRecord, readRecord};
+ghost use Rattle.metadata.specs.Encoding.{after};
 
 // What stands in a metadata file.
 pub enum Reading {
