@@ -1,4 +1,5 @@
 pub mod Words
+pub mod WordLaws
 pub mod Constants
 pub mod Blake2b
 pub mod Message

@@ -36,10 +36,12 @@ fn words_of(block: &[u8; 128]) -> [u64; 16]
 fn work_vector(h: &[u64; 8], t: u64, last: bool) -> [u64; 16]
     ensures { λ r. ⌜ r ≡ workVector (now (h .entry)) t last ⌝ }
 {
+    // As a slice, since a proof learns there that h has eight words; so in `fold`.
+    let words: &[u64] = h;
     let mut v = [0u64; 16];
     let mut i = 0;
     while i < 8 {
-        v[i] = h[i];
+        v[i] = words[i];
         v[i + 8] = IV[i];
         i += 1;
     }
@@ -54,9 +56,10 @@ fn work_vector(h: &[u64; 8], t: u64, last: bool) -> [u64; 16]
 fn fold(h: &mut [u64; 8], v: &[u64; 16])
     ensures { λ _. ⌜ now (h .exit) ≡ foldFrom 0 (now (h .entry)) (now (v .entry)) ⌝ }
 {
+    let words: &mut [u64] = h;
     let mut i = 0;
     while i < 8 {
-        h[i] = xor(xor(h[i], v[i]), v[i + 8]);
+        words[i] = xor(xor(words[i], v[i]), v[i + 8]);
         i += 1;
     }
 }
