@@ -4,4 +4,5 @@ pub mod Constants
 pub mod Blake2b
 pub mod Message
 pub mod Digest
+pub mod Laws
 pub mod Vectors

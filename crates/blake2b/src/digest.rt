@@ -40,10 +40,12 @@ fn start(kk: usize, nn: usize) -> [u64; 8]
 fn bytes_of(h: &[u64; 8]) -> [u8; 64]
     ensures { λ r. ⌜ r ≡ bytesOf (now (h .entry)) ⌝ }
 {
+    // As a slice, since a proof learns there that h has eight words.
+    let words: &[u64] = h;
     let mut bytes = [0u8; 64];
     let mut i = 0;
     while i < 8 {
-        octets::put_u64(&mut bytes, 8 * i, h[i]);
+        octets::put_u64(&mut bytes, 8 * i, words[i]);
         i += 1;
     }
     bytes

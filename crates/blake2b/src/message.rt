@@ -2,10 +2,22 @@
 // and then the message, which comes in two parts. One block of it is laid out at a time.
 ghost use mathlib.Core.Path.{_≡_};
 ghost use mathlib.Core.List.{_++_};
-ghost use Prim.Native.Nat.{_+_, _<_, _≤_, _^_};
+ghost use Prim.Native.Nat.{_+_, _<_, _≤_, _^_, min, max};
 ghost use lib.ListN.{length};
 ghost use Rattle.blake2b.specs.Blake2b.{keyed, blockFrom};
 ghost use Rattle.blake2b.specs.Message.{laid, Lengths};
+
+fn larger(a: usize, b: usize) -> usize
+    ensures { λ r. ⌜ r ≡ max a b ⌝ }
+{
+    if a < b { b } else { a }
+}
+
+fn smaller(a: usize, b: usize) -> usize
+    ensures { λ r. ⌜ r ≡ min a b ⌝ }
+{
+    if a < b { a } else { b }
+}
 
 // Lays the bytes of a part into a block: the block shows the data from at on, and the part stands
 // in the data from the place `from` on. What of it lies outside the block is passed over.
@@ -13,13 +25,14 @@ fn lay(block: &mut [u8; 128], at: usize, part: &[u8], from: usize)
     requires { ⌜ (at + 128 < 2 ^ 64) × (from + length (now part) < 2 ^ 64) ⌝ }
     ensures { λ _. ⌜ now (block .exit) ≡ laid (now (block .entry)) at (now (part .entry)) from ⌝ }
 {
-    let end = from + part.len();
-    let first = if from < at { at } else { from };
-    let stop = if end < at + 128 { end } else { at + 128 };
+    // As a slice, since a proof learns there that the block has 128 bytes.
+    let whole: &mut [u8] = block;
+    let first = larger(at, from);
+    let stop = smaller(at + 128, from + part.len());
     if first < stop {
         let a = first - from;
         let e = stop - from;
-        octets::copy_in(block, first - at, &part[a..e]);
+        octets::copy_in(whole, first - at, &part[a..e]);
     }
 }
 

@@ -3,21 +3,25 @@
 // what they must be: the RFC's own two values, and the rest from Python's hashlib.
 use blake2b::Hashed;
 use libc::STDOUT_FILENO;
-ghost use Prim.Native.Nat.{_≤_};
+ghost use mathlib.Core.Path.{_≡_};
+ghost use Prim.Native.Nat.{_+_, _*_, _≤_};
 ghost use lib.ListN.{length};
 
-// Appendix E's selftest_seq: a sequence of bytes from a seed, by Fibonacci's rule modulo 2^32.
-fn sequence(out: &mut [u8], seed: u64) {
+// Appendix E's selftest_seq: a sequence of bytes from a seed, by Fibonacci's rule modulo 2^32. A
+// shorter sequence begins a longer one.
+fn sequence(seed: u64) -> [u8; 1024] {
     let mut a: u64 = 0xDEAD_4BAD * (seed % 0x1_0000) % 0x1_0000_0000;
     let mut b: u64 = 1;
+    let mut out = [0u8; 1024];
     let mut i = 0;
-    while i < out.len() {
+    while i < 1024 {
         let t = (a + b) % 0x1_0000_0000;
         a = b;
         b = t;
         out[i] = (t / 0x100_0000 % 256) as u8;
         i += 1;
     }
+    out
 }
 
 // A byte as a number, with no proof that it fits.
@@ -52,31 +56,32 @@ fn show(digest: &mut [u8], key: &[u8], message: &[u8]) {
     }
 }
 
-// The digests of one length in appendix E's order, unkeyed and keyed by turns, into `all` from at on.
-// Answers the place behind the last.
-fn one_length(all: &mut [u8; 1968], at: usize, nn: usize) -> usize {
-    let lengths: [usize; 6] = [0, 3, 128, 129, 255, 1024];
-    let mut input = [0u8; 1024];
-    let mut key = [0u8; 64];
-    let mut place = at;
-    let mut j = 0;
-    if 64 < nn {
-        return at;
-    }
-    while j < 6 {
-        let n = lengths[j];
-        if n <= 1024 && place <= 1968 && 2 * nn <= 1968 - place {
-            let middle = place + nn;
-            let end = middle + nn;
-            sequence(&mut input[..n], n as u64);
-            sequence(&mut key[..nn], nn as u64);
-            show(&mut all[place..middle], &key[..0], &input[..n]);
-            show(&mut all[middle..end], &key[..nn], &input[..n]);
-            place = end;
-        }
-        j += 1;
-    }
-    place
+// The digests of nn bytes of one message of appendix E, unkeyed and keyed, into `all` from at on.
+// Answers the place behind them.
+fn one_message(all: &mut [u8], at: usize, nn: usize, n: usize) -> usize
+    requires { ⌜ (at + 2 * nn ≤ length (now all)) × ((nn ≤ 64) × (n ≤ 1024)) ⌝ }
+    ensures { λ r. ⌜ r ≡ at + 2 * nn ⌝ }
+{
+    let input = sequence(n as u64);
+    let key = sequence(nn as u64);
+    let middle = at + nn;
+    let end = middle + nn;
+    show(&mut all[at..middle], b"", &input[..n]);
+    show(&mut all[middle..end], &key[..nn], &input[..n]);
+    end
+}
+
+// The digests of one length, in appendix E's order of messages.
+fn one_length(all: &mut [u8], at: usize, nn: usize) -> usize
+    requires { ⌜ (at + 12 * nn ≤ length (now all)) × (nn ≤ 64) ⌝ }
+    ensures { λ r. ⌜ r ≡ at + 12 * nn ⌝ }
+{
+    let at = one_message(all, at, nn, 0);
+    let at = one_message(all, at, nn, 3);
+    let at = one_message(all, at, nn, 128);
+    let at = one_message(all, at, nn, 129);
+    let at = one_message(all, at, nn, 255);
+    one_message(all, at, nn, 1024)
 }
 
 fn appendix_e() {
@@ -87,22 +92,28 @@ fn appendix_e() {
     one_length(&mut all, at, 64);
     let mut grand = [0u8; 32];
     io::write_all(STDOUT_FILENO, b"the hash of these hashes: ");
-    show(&mut grand, &all[..0], &all);
+    show(&mut grand, b"", &all);
+}
+
+// The digest of 32 bytes of n bytes of appendix E's sequence.
+fn of_length(n: usize)
+    requires { ⌜ n ≤ 1024 ⌝ }
+{
+    let input = sequence(n as u64);
+    let mut digest = [0u8; 32];
+    show(&mut digest, b"", &input[..n]);
 }
 
 fn around_blocks() {
-    let lengths: [usize; 9] = [0, 1, 127, 128, 129, 255, 256, 374, 1024];
-    let mut input = [0u8; 1024];
-    let mut digest = [0u8; 32];
-    let mut j = 0;
-    while j < 9 {
-        let n = lengths[j];
-        if n <= 1024 {
-            sequence(&mut input[..n], n as u64);
-            show(&mut digest, &input[..0], &input[..n]);
-        }
-        j += 1;
-    }
+    of_length(0);
+    of_length(1);
+    of_length(127);
+    of_length(128);
+    of_length(129);
+    of_length(255);
+    of_length(256);
+    of_length(374);
+    of_length(1024);
 }
 
 fn main() {
