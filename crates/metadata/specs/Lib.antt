@@ -3,5 +3,9 @@ pub mod Tapes
 pub mod Decoding
 pub mod Struct
 pub mod Encoding
+pub mod Rules
+pub mod Taken
+pub mod RoundTrip
+pub mod Encodable
 pub mod Record
 pub mod Choice

@@ -14,22 +14,23 @@ pub enum Side {
     Right,
 }
 
-fn epoch_in(s: &[u8]) -> u64
-    ensures { λ r. ⌜ r ≡ epochOf (readRecord (now (s .entry))) ⌝ }
+fn reading_epoch(r: Reading) -> u64
+    ensures { λ e. ⌜ e ≡ epochOf r ⌝ }
 {
-    match read_record(s) {
-        Reading::Whole { epoch, list: _ } => epoch,
+    match r {
+        Reading::Whole { epoch, list_len: _ } => epoch,
         Reading::Empty => 0,
     }
 }
 
 // The record at the front of a file, without what stands behind it; empty where nothing counts.
-fn record_part<'a>(s: &'a [u8]) -> &'a [u8]
-    ensures { λ r. ⌜ now r ≡ partOf (now (s .entry)) (readRecord (now (s .entry))) ⌝ }
+fn record_part<'a>(s: &'a [u8], r: Reading) -> &'a [u8]
+    requires { ⌜ r ≡ readRecord (now s) ⌝ }
+    ensures { λ p. ⌜ now p ≡ partOf (now (s .entry)) r ⌝ }
 {
-    match read_record(s) {
-        Reading::Whole { epoch: _, list } => {
-            let end = 48 + list;
+    match r {
+        Reading::Whole { epoch: _, list_len } => {
+            let end = 48 + list_len;
             &s[..end]
         }
         Reading::Empty => &s[..0],
@@ -40,23 +41,25 @@ fn record_part<'a>(s: &'a [u8]) -> &'a [u8]
 pub fn pick<'a>(left: &'a [u8], right: &'a [u8]) -> &'a [u8]
     ensures { λ r. ⌜ now r ≡ chosen (now (left .entry)) (now (right .entry)) ⌝ }
 {
-    if epoch_in(right) < epoch_in(left) {
-        return record_part(left);
+    let in_left = read_record(left);
+    let in_right = read_record(right);
+    if reading_epoch(in_right) < reading_epoch(in_left) {
+        return record_part(left, in_left);
     }
-    record_part(right)
+    record_part(right, in_right)
 }
 
 // The file that the next record goes to: the one that was not picked.
 pub fn next_side(left: &[u8], right: &[u8]) -> Side
     ensures { λ r. ⌜ r ≡ nextSide (now (left .entry)) (now (right .entry)) ⌝ }
 {
-    if epoch_in(right) < epoch_in(left) {
+    if reading_epoch(read_record(right)) < reading_epoch(read_record(left)) {
         return Side::Right;
     }
     Side::Left
 }
 
-// The epoch of a record that was picked; 0 where nothing counts.
+// The epoch of a record that `pick` handed on; 0 where nothing counts. Its hash is not looked at again.
 pub fn epoch_of(record: &[u8]) -> u64
     ensures { λ r. ⌜ r ≡ chosenEpoch (now («record» .entry)) ⌝ }
 {
@@ -66,7 +69,8 @@ pub fn epoch_of(record: &[u8]) -> u64
     octets::u64_at(record, 36)
 }
 
-// The list of a record that was picked; the empty one where nothing counts.
+// The list of a record that `pick` handed on; the empty one where nothing counts. Its hash is not
+// looked at again.
 pub fn list_of(record: &[u8]) -> Decoded
     ensures { λ r. ⌜ r ≡ decodedOf (chosenList (now («record» .entry))) ⌝ }
 {

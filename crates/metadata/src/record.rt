@@ -27,7 +27,7 @@ ghost use Rattle.metadata.specs.Encoding.{after};
 // What stands in a metadata file.
 pub enum Reading {
     // A record of this epoch, whose list has so many bytes.
-    Whole { epoch: u64, list: usize },
+    Whole { epoch: u64, list_len: usize },
     // Nothing that counts: epoch 0 and the empty list.
     Empty,
 }
@@ -53,6 +53,7 @@ fn hash_agrees(stored: &[u8], epoch: u64, list: &[u8]) -> bool
     octets::same_bytes(stored, &hash)
 }
 
+// What stands at the front of a metadata file.
 pub fn read_record(s: &[u8]) -> Reading
     ensures { λ r. ⌜ r ≡ readRecord (now (s .entry)) ⌝ }
 {
@@ -81,7 +82,7 @@ pub fn read_record(s: &[u8]) -> Reading
     if hash_agrees(&s[hash..hash + 32], epoch, &s[list..list + len]) {
         return Reading::Whole {
             epoch: epoch,
-            list: len,
+            list_len: len,
         };
     }
     Reading::Empty
