@@ -3,6 +3,7 @@ pub mod Tapes
 pub mod Decoding
 pub mod Struct
 pub mod Encoding
+pub mod StructLaws
 pub mod Rules
 pub mod Taken
 pub mod RoundTrip

@@ -70,6 +70,14 @@ pub fn is_storable(list: TapeList) -> bool
     true
 }
 
+// How many bytes a tape takes.
+fn tape_len(t: TapeMetadata) -> usize
+    requires { ⌜ t .letters ≤ 24 ⌝ }
+    ensures { λ r. ⌜ r ≡ length (encodeTape (meaning t)) ⌝ }
+{
+    20 + t.letters
+}
+
 // How many bytes a list takes.
 pub(crate) fn encoded_len(list: TapeList) -> usize
     requires { ⌜ storable list ≡ true ⌝ }
@@ -79,7 +87,7 @@ pub(crate) fn encoded_len(list: TapeList) -> usize
     let mut i = 0;
     while i < list.count {
         let t = list.tapes[i];
-        n += 20 + t.letters;
+        n += tape_len(t);
         i += 1;
     }
     n
