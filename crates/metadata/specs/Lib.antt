@@ -1,7 +1,9 @@
 pub mod Name
+pub mod NameLaws
 pub mod Tapes
 pub mod Decoding
 pub mod Struct
+pub mod DecodingLaws
 pub mod Encoding
 pub mod StructLaws
 pub mod Rules

@@ -1,6 +1,6 @@
--- `metadata::list::TapeList::empty`: eight blank tapes. Assumes nothing.
-use Rattle.metadata.specs.Struct.{listOf}
+-- `metadata::TapeList::empty` is the list of no tapes: eight blank ones stand behind them. Assumes nothing.
 use borrow.Author.Needs.{needs}
+use Rattle.metadata.specs.Struct.{listOf}
 use Rattle.metadata.proofs.list.TapeList.empty.Statement.{statement}
 use Rattle.metadata.proofs.list.TapeList.empty.Tie as tie
 
