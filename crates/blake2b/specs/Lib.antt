@@ -1,6 +1,7 @@
 pub mod Words
 pub mod WordLaws
 pub mod Constants
+pub mod Schedule
 pub mod Blake2b
 pub mod Message
 pub mod Digest

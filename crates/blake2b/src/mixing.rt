@@ -4,11 +4,9 @@ ghost use mathlib.Core.Path.{_≡_};
 ghost use Prim.Native.Nat.{_+_, _*_, _%_, _<_, _^_};
 ghost use lib.ListN.{getD};
 ghost use Rattle.blake2b.specs.Words.{xor, rotr};
-ghost use Rattle.blake2b.specs.Constants.{SIGMA};
+ghost use Rattle.blake2b.specs.Schedule.{rowOf, digit};
 ghost use Rattle.blake2b.specs.Blake2b.{addWord, add, turn, G, round, rounds};
 
-// The message schedule, a row to a number: SIGMA[i][j] is the hexadecimal digit j of row i, from the
-// left.
 const SIGMA: [u64; 10] = [
     0x0123456789ABCDEF,
     0xEA489FD61C02B753,
@@ -76,12 +74,20 @@ fn mix(v: &mut [u64; 16], a: usize, b: usize, c: usize, d: usize, x: u64, y: u64
     turn(v, b, c, 63);
 }
 
-// The message word at SIGMA[i][j].
-fn scheduled(m: &[u64; 16], i: usize, j: usize) -> u64
-    requires { ⌜ (i < 10) × (j < 16) ⌝ }
-    ensures { λ r. ⌜ r ≡ getD (now (m .entry)) (getD SIGMA (16 * i + j) 0) 0 ⌝ }
+// Row i of SIGMA as a number: SIGMA[i][j] is its hexadecimal digit j, from the left.
+fn row(i: usize) -> u64
+    requires { ⌜ i < 10 ⌝ }
+    ensures { λ r. ⌜ r ≡ rowOf i ⌝ }
 {
-    let k = (SIGMA[i] >> (60 - 4 * j)) % 16;
+    SIGMA[i]
+}
+
+// The message word that digit j of a row names.
+fn scheduled(m: &[u64; 16], row: u64, j: usize) -> u64
+    requires { ⌜ j < 16 ⌝ }
+    ensures { λ r. ⌜ r ≡ getD (now (m .entry)) (digit row j) 0 ⌝ }
+{
+    let k = (row >> (60 - 4 * j)) % 16;
     m[k as usize]
 }
 
@@ -90,14 +96,79 @@ fn round(v: &mut [u64; 16], m: &[u64; 16], i: usize)
     requires { ⌜ i < 10 ⌝ }
     ensures { λ _. ⌜ now (v .exit) ≡ round (now (m .entry)) i (now (v .entry)) ⌝ }
 {
-    mix(v, 0, 4, 8, 12, scheduled(m, i, 0), scheduled(m, i, 1));
-    mix(v, 1, 5, 9, 13, scheduled(m, i, 2), scheduled(m, i, 3));
-    mix(v, 2, 6, 10, 14, scheduled(m, i, 4), scheduled(m, i, 5));
-    mix(v, 3, 7, 11, 15, scheduled(m, i, 6), scheduled(m, i, 7));
-    mix(v, 0, 5, 10, 15, scheduled(m, i, 8), scheduled(m, i, 9));
-    mix(v, 1, 6, 11, 12, scheduled(m, i, 10), scheduled(m, i, 11));
-    mix(v, 2, 7, 8, 13, scheduled(m, i, 12), scheduled(m, i, 13));
-    mix(v, 3, 4, 9, 14, scheduled(m, i, 14), scheduled(m, i, 15));
+    let sigma = row(i);
+    mix(
+        v,
+        0,
+        4,
+        8,
+        12,
+        scheduled(m, sigma, 0),
+        scheduled(m, sigma, 1),
+    );
+    mix(
+        v,
+        1,
+        5,
+        9,
+        13,
+        scheduled(m, sigma, 2),
+        scheduled(m, sigma, 3),
+    );
+    mix(
+        v,
+        2,
+        6,
+        10,
+        14,
+        scheduled(m, sigma, 4),
+        scheduled(m, sigma, 5),
+    );
+    mix(
+        v,
+        3,
+        7,
+        11,
+        15,
+        scheduled(m, sigma, 6),
+        scheduled(m, sigma, 7),
+    );
+    mix(
+        v,
+        0,
+        5,
+        10,
+        15,
+        scheduled(m, sigma, 8),
+        scheduled(m, sigma, 9),
+    );
+    mix(
+        v,
+        1,
+        6,
+        11,
+        12,
+        scheduled(m, sigma, 10),
+        scheduled(m, sigma, 11),
+    );
+    mix(
+        v,
+        2,
+        7,
+        8,
+        13,
+        scheduled(m, sigma, 12),
+        scheduled(m, sigma, 13),
+    );
+    mix(
+        v,
+        3,
+        4,
+        9,
+        14,
+        scheduled(m, sigma, 14),
+        scheduled(m, sigma, 15),
+    );
 }
 
 // All twelve rounds.

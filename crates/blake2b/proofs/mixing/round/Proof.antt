@@ -1,9 +1,13 @@
--- `mixing::round` leaves `round`: eight mixings, each on the words that two calls of `scheduled` return. Late ones lie too far for `search`: what is required is bound. Assumes nothing.
-use borrow.Author.Needs.{needs}
+-- `mixing::round` leaves `round`: eight mixings, each on the words that two calls of `scheduled` return. Assumes nothing.
+use native.Mathlib.Omega.{arith}
 use Rattle.blake2b.specs.Blake2b.{mixing, round}
 use Rattle.blake2b.proofs.Steps.{eight, mixed}
+use borrow.Author.Needs.{needs}
 use Rattle.blake2b.proofs.mixing.round.Statement.{statement}
 use Rattle.blake2b.proofs.mixing.round.Tie as tie
+
+row-requires : tie.Need-row-requires
+row-requires c κs = search needs
 
 scheduled-requires : tie.Need-scheduled-requires
 scheduled-requires c κs = search needs
@@ -45,48 +49,34 @@ scheduled-requires-9 : tie.Need-scheduled-requires-9
 scheduled-requires-9 c κs = search needs
 
 scheduled-requires-10 : tie.Need-scheduled-requires-10
-scheduled-requires-10 c κs =
-    let pre = c .before .before .before .before .before .before .before .before .before .before .before .before .before .before .before .before .before .before .pre in
-    search needs
+scheduled-requires-10 c κs = search needs
 
 mix-requires-5 : tie.Need-mix-requires-5
 mix-requires-5 c κs = search needs
 
 scheduled-requires-11 : tie.Need-scheduled-requires-11
-scheduled-requires-11 c κs =
-    let pre = c .before .before .before .before .before .before .before .before .before .before .before .before .before .before .before .before .before .before .before .before .before .pre in
-    search needs
+scheduled-requires-11 c κs = search needs
 
 scheduled-requires-12 : tie.Need-scheduled-requires-12
-scheduled-requires-12 c κs =
-    let pre = c .before .before .before .before .before .before .before .before .before .before .before .before .before .before .before .before .before .before .before .before .before .before .pre in
-    search needs
+scheduled-requires-12 c κs = search needs
 
 mix-requires-6 : tie.Need-mix-requires-6
 mix-requires-6 c κs = search needs
 
 scheduled-requires-13 : tie.Need-scheduled-requires-13
-scheduled-requires-13 c κs =
-    let pre = c .before .before .before .before .before .before .before .before .before .before .before .before .before .before .before .before .before .before .before .before .before .before .before .before .before .pre in
-    search needs
+scheduled-requires-13 c κs = search needs
 
 scheduled-requires-14 : tie.Need-scheduled-requires-14
-scheduled-requires-14 c κs =
-    let pre = c .before .before .before .before .before .before .before .before .before .before .before .before .before .before .before .before .before .before .before .before .before .before .before .before .before .before .pre in
-    search needs
+scheduled-requires-14 c κs = search needs
 
 mix-requires-7 : tie.Need-mix-requires-7
 mix-requires-7 c κs = search needs
 
 scheduled-requires-15 : tie.Need-scheduled-requires-15
-scheduled-requires-15 c κs =
-    let pre = c .before .before .before .before .before .before .before .before .before .before .before .before .before .before .before .before .before .before .before .before .before .before .before .before .before .before .before .before .before .pre in
-    search needs
+scheduled-requires-15 c κs = search needs
 
 scheduled-requires-16 : tie.Need-scheduled-requires-16
-scheduled-requires-16 c κs =
-    let pre = c .before .before .before .before .before .before .before .before .before .before .before .before .before .before .before .before .before .before .before .before .before .before .before .before .before .before .before .before .before .before .pre in
-    search needs
+scheduled-requires-16 c κs = search needs
 
 mix-requires-8 : tie.Need-mix-requires-8
 mix-requires-8 c κs = search needs
@@ -118,7 +108,9 @@ returns c =
     let mix = c .before .before .before .before .before .before .before .before .before .before .before .before .before .before .before .before .before .before .before .before .before .before .before .before .before .before .before .before .mix in
     let scheduled2 = c .before .before .before .before .before .before .before .before .before .before .before .before .before .before .before .before .before .before .before .before .before .before .before .before .before .before .before .before .before .scheduled2 in
     let scheduled = c .before .before .before .before .before .before .before .before .before .before .before .before .before .before .before .before .before .before .before .before .before .before .before .before .before .before .before .before .before .before .scheduled in
-    let args = c .before .before .before .before .before .before .before .before .before .before .before .before .before .before .before .before .before .before .before .before .before .before .before .before .before .before .before .before .before .before .before .before .args in
+    let row = c .before .before .before .before .before .before .before .before .before .before .before .before .before .before .before .before .before .before .before .before .before .before .before .before .before .before .before .before .before .before .before .before .row in
+    let args = c .before .before .before .before .before .before .before .before .before .before .before .before .before .before .before .before .before .before .before .before .before .before .before .before .before .before .before .before .before .before .before .before .before .args in
+    let pre = c .before .before .before .before .before .before .before .before .before .before .before .before .before .before .before .before .before .before .before .before .before .before .before .before .before .before .before .before .before .before .before .before .before .pre in
     let m = args .m .now in
     let i = args .i in
     eight
@@ -130,19 +122,20 @@ returns c =
     (mixing m i 5 1 6 11 12)
     (mixing m i 6 2 7 8 13)
     (mixing m i 7 3 4 9 14)
-    (mixed m i 0 0 4 8 12 _ (mix .ensures) (scheduled .ensures) (scheduled2 .ensures))
-    (mixed m i 1 1 5 9 13 _ (mix2 .ensures) (scheduled3 .ensures) (scheduled4 .ensures))
-    (mixed m i 2 2 6 10 14 _ (mix3 .ensures) (scheduled5 .ensures) (scheduled6 .ensures))
-    (mixed m i 3 3 7 11 15 _ (mix4 .ensures) (scheduled7 .ensures) (scheduled8 .ensures))
-    (mixed m i 4 0 5 10 15 _ (mix5 .ensures) (scheduled9 .ensures) (scheduled10 .ensures))
-    (mixed m i 5 1 6 11 12 _ (mix6 .ensures) (scheduled11 .ensures) (scheduled12 .ensures))
-    (mixed m i 6 2 7 8 13 _ (mix7 .ensures) (scheduled13 .ensures) (scheduled14 .ensures))
-    (mixed m i 7 3 4 9 14 _ (mix8 .ensures) (scheduled15 .ensures) (scheduled16 .ensures))
+    (mixed m i 0 0 4 8 12 _ pre (omega arith) (row .ensures) (mix .ensures) (scheduled .ensures) (scheduled2 .ensures))
+    (mixed m i 1 1 5 9 13 _ pre (omega arith) (row .ensures) (mix2 .ensures) (scheduled3 .ensures) (scheduled4 .ensures))
+    (mixed m i 2 2 6 10 14 _ pre (omega arith) (row .ensures) (mix3 .ensures) (scheduled5 .ensures) (scheduled6 .ensures))
+    (mixed m i 3 3 7 11 15 _ pre (omega arith) (row .ensures) (mix4 .ensures) (scheduled7 .ensures) (scheduled8 .ensures))
+    (mixed m i 4 0 5 10 15 _ pre (omega arith) (row .ensures) (mix5 .ensures) (scheduled9 .ensures) (scheduled10 .ensures))
+    (mixed m i 5 1 6 11 12 _ pre (omega arith) (row .ensures) (mix6 .ensures) (scheduled11 .ensures) (scheduled12 .ensures))
+    (mixed m i 6 2 7 8 13 _ pre (omega arith) (row .ensures) (mix7 .ensures) (scheduled13 .ensures) (scheduled14 .ensures))
+    (mixed m i 7 3 4 9 14 _ pre (omega arith) (row .ensures) (mix8 .ensures) (scheduled15 .ensures) (scheduled16 .ensures))
 
 pub round-spec : {M : Type 1} → statement M
 round-spec =
     tie.close
     (tie.spec
+    row-requires
     scheduled-requires
     scheduled-requires-2
     mix-requires
