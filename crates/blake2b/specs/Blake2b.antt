@@ -84,9 +84,9 @@ foldFrom i (x ∷ h) v = xor (xor x (getD v i 0)) (getD v (i + 8) 0) ∷ foldFro
 unfoldable pub F : List ℕ → List ℕ → ℕ → Bool → List ℕ
 F h m t f = foldFrom 0 h (rounds m r (workVector h t f))
 
--- ---- 3.3 Padding Data and Computing a BLAKE2 Digest
+-- ---- 2.4 Little-Endian Interpretation of Words as Bytes
 
--- the little-endian words of a block, k of them from a place on
+-- k words of s, from a place on
 unfoldable pub wordsFrom : ℕ → List ℕ → ℕ → List ℕ
 wordsFrom zero s at = []
 wordsFrom (suc k) s at = numAt 8 s at ∷ wordsFrom k s (at + 8)
@@ -95,6 +95,8 @@ wordsFrom (suc k) s at = numAt 8 s at ∷ wordsFrom k s (at + 8)
 unfoldable pub bytesOf : List ℕ → List ℕ
 bytesOf [] = []
 bytesOf (x ∷ h) = le 8 x ++ bytesOf h
+
+-- ---- 3.3 Padding Data and Computing a BLAKE2 Digest
 
 -- padded with zero bytes to a whole block
 unfoldable pub pad : List ℕ → List ℕ
@@ -113,15 +115,15 @@ blockFrom s at = pad (take bb (drop at s))
 unfoldable pub d : List ℕ → ℕ → List ℕ
 d s i = wordsFrom 16 (blockFrom s (i * bb)) 0
 
--- the blocks that n bytes fill
-abbrev pub ceil : ℕ → ℕ
-ceil n = (n + (bb - 1)) / bb
+-- ceil(n / bb): the blocks that n bytes fill
+abbrev pub blocks : ℕ → ℕ
+blocks n = (n + (bb - 1)) / bb
 
 -- dd = ceil(kk / bb) + ceil(ll / bb), and 1 where there is neither key nor message
 unfoldable pub dd : ℕ → ℕ → ℕ
-dd kk ll = max 1 (ceil kk + ceil ll)
+dd kk ll = max 1 (blocks kk + blocks ll)
 
--- section 2.5: h[0] := h[0] ^ 0x01010000 ^ (kk << 8) ^ nn, the first word of the parameter block
+-- h[0] := h[0] ^ 0x01010000 ^ (kk << 8) ^ nn: the first word of section 2.5's parameter block; the others are 0
 unfoldable pub start : ℕ → ℕ → List ℕ
 start kk nn = set IV 0 (xor (xor (xor (getD IV 0 0) 0x01010000) (shl kk 8)) nn)
 

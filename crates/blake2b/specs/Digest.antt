@@ -1,6 +1,6 @@
 -- What a request for a digest answers, and what the caller's buffer then holds. Assumes nothing.
 use mathlib.Core.Path.{_≡_, sym, ap, _∙_}
-use mathlib.Core.Bool.{Bool, true, false}
+use mathlib.Core.Bool.{cond}
 use mathlib.Core.List.{List, _++_}
 use Prim.Native.Nat.{ℕ, _+_, _-_, _≤_, _<_}
 use borrow.Author.Tests.{lt-ltb, le-ltb}
@@ -19,18 +19,15 @@ pub record Written : Type 0 where
 abbrev pub written : Hashed → List ℕ → Written
 written a b = record { answer = a; bytes = b }
 
-abbrev pub pick : Bool → Written → Written → Written
-pick true a b = a
-pick false a b = b
-
--- lengths that the RFC has not are refused; else the digest stands at the buffer's front
+-- a digest or key length that the RFC has not, a head of more than a block and a buffer that is too short are refused; else the digest stands at
+-- the buffer's front
 unfoldable pub hashed : ℕ → List ℕ → List ℕ → List ℕ → List ℕ → Written
 hashed nn key head tail out =
-    pick (ltb nn 1) (written DigestLength out)
-    (pick (ltb 64 nn) (written DigestLength out)
-    (pick (ltb 64 (length key)) (written KeyLength out)
-    (pick (ltb 128 (length head)) (written HeadLength out)
-    (pick (ltb (length out) nn) (written ShortBuffer out)
+    cond (ltb nn 1) (written DigestLength out)
+    (cond (ltb 64 nn) (written DigestLength out)
+    (cond (ltb 64 (length key)) (written KeyLength out)
+    (cond (ltb 128 (length head)) (written HeadLength out)
+    (cond (ltb (length out) nn) (written ShortBuffer out)
     (written Done (put out 0 (blake2b nn key (head ++ tail))))))))
 
 -- a message in two parts

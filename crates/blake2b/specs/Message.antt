@@ -1,7 +1,7 @@
 -- How the code lays out one block of what is hashed: part by part. Assumes nothing.
 use mathlib.Core.Path.{_≡_, refl, sym, ap, _∙_}
 use mathlib.Core.Logic.{_⊎_, inl, inr, ⊎-elim}
-use mathlib.Core.Bool.{Bool, true, false}
+use mathlib.Core.Bool.{Bool, true, false, cond}
 use mathlib.Core.List.{List, [], _∷_, _++_, append-assoc}
 use Prim.Native.Nat.{ℕ, zero, suc, _+_, _-_, _≤_, _<_, _^_}
 use native.Mathlib.Omega.{arith}
@@ -17,15 +17,11 @@ pub record Lengths (key head tail : ℕ) : Type 0 where
   pub short : key ≤ 64
   pub fits : 128 + (head + tail) + 128 < 2 ^ 64
 
-abbrev pub pickByte : Bool → ℕ → ℕ → ℕ
-pickByte true a b = a
-pickByte false a b = b
-
 -- a block that shows the data from `at` on, after a part is laid into it that stands in the data from `from` on
 unfoldable pub laid : List ℕ → ℕ → List ℕ → ℕ → List ℕ
 laid [] at part from = []
 laid (b ∷ block) at part from =
-    pickByte (leb from at) (pickByte (ltb (at - from) (length part)) (getD part (at - from) 0) b) b ∷ laid block (at + 1) part from
+    cond (leb from at) (cond (ltb (at - from) (length part)) (getD part (at - from) 0) b) b ∷ laid block (at + 1) part from
 
 -- how two numbers lie
 le-or-lt : (a b : ℕ) → (a ≤ b) ⊎ (b < a)

@@ -19,7 +19,7 @@ xor a b = xorBits w a b
 abbrev pub shr : ℕ → ℕ → ℕ
 shr x n = x / 2 ^ n
 
--- x << n: "x * 2**n", of which a word keeps its lowest w bits
+-- x << n: "(x * 2**n) mod (2**w)"
 abbrev pub shl : ℕ → ℕ → ℕ
 shl x n = x * 2 ^ n % 2 ^ w
 

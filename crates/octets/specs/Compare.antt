@@ -1,7 +1,7 @@
 -- Runs of bytes compared: whether two are the same, and which comes first in byte order. Assumes nothing.
 use mathlib.Core.Path.{_≡_, refl, sym, ap, _∙_}
 use mathlib.Core.Logic.{_≢_}
-use mathlib.Core.Bool.{Bool, true, false, false≢true}
+use mathlib.Core.Bool.{Bool, true, false, cond, false≢true}
 use mathlib.Core.List.{List, [], _∷_}
 use Prim.Native.Nat.{ℕ, suc, _+_, _≤_, _<_}
 use native.Mathlib.Numerals.{add-one}
@@ -11,28 +11,23 @@ use lib.Dec.{ltb, eqb}
 use lib.ListN.{length, getD, drop, drop-of-length-le}
 use lib.Seq.{drop-cons}
 
--- the first or the second, as a test says
-abbrev pub pick : Bool → Bool → Bool → Bool
-pick true u v = u
-pick false u v = v
-
 -- the same bytes, as many
 unfoldable pub sameBytes : List ℕ → List ℕ → Bool
 sameBytes [] [] = true
 sameBytes [] (y ∷ b) = false
 sameBytes (x ∷ a) [] = false
-sameBytes (x ∷ a) (y ∷ b) = pick (eqb x y) (sameBytes a b) false
+sameBytes (x ∷ a) (y ∷ b) = cond (eqb x y) (sameBytes a b) false
 
 -- before the other in the order of bytes; the end of a text comes before every byte
 unfoldable pub comesBefore : List ℕ → List ℕ → Bool
 comesBefore [] [] = false
 comesBefore [] (y ∷ b) = true
 comesBefore (x ∷ a) [] = false
-comesBefore (x ∷ a) (y ∷ b) = pick (ltb x y) true (pick (ltb y x) false (comesBefore a b))
+comesBefore (x ∷ a) (y ∷ b) = cond (ltb x y) true (cond (ltb y x) false (comesBefore a b))
 
 -- ---- the same: what it says
 
-both : (t u : Bool) → pick t u false ≡ true → (t ≡ true) × (u ≡ true)
+both : (t u : Bool) → cond t u false ≡ true → (t ≡ true) × (u ≡ true)
 both true u e = (refl, e)
 both false u e = absurd (false≢true e)
 
