@@ -12,3 +12,5 @@ pub mod RoundTrip
 pub mod Encodable
 pub mod Record
 pub mod Choice
+pub mod RecordLaws
+pub mod Unique
