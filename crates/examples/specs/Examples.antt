@@ -34,5 +34,5 @@ examples =
       one-record = λ epoch. length-record epoch (encodeList []);
       two = refl;
       two-length = refl;
-      two-record = λ epoch. length-record epoch (encodeList a)
+      two-record = λ epoch. length-record epoch (encodeList a);
     }

@@ -21,8 +21,8 @@ fn print_tape(t: TapeMetadata) {
 
 fn print_list(list: TapeList) {
     let mut i = 0;
-    while i < list.count {
-        if i < 8 {
+    while i < 8 {
+        if i < list.count {
             let t = list.tapes[i];
             print_tape(t);
         }
