@@ -3,7 +3,6 @@ use crate::mixing::twelve_rounds;
 use crate::mixing::xor;
 ghost use mathlib.Core.Path.{_≡_};
 ghost use Prim.Native.Nat.{_+_, _<_};
-ghost use lib.ListN.{length};
 ghost use Rattle.blake2b.specs.Constants.{IV};
 ghost use Rattle.blake2b.specs.Blake2b.{wordsFrom, workVector, foldFrom, F};
 

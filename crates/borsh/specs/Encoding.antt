@@ -1,6 +1,6 @@
 -- The Borsh specification, for the types that a metadata record is made of. A struct is its fields in the order of their declaration, so it is the
 -- `++` of their encodings and needs no definition. Assumes nothing.
-use mathlib.Core.Bool.{Bool, true, false}
+use mathlib.Core.Bool.{Bool, true, false, _&&_}
 use mathlib.Core.List.{List, [], _∷_, _++_}
 use Prim.Native.Nat.{ℕ}
 use lib.ListN.{length}
@@ -27,15 +27,12 @@ unfoldable pub each : {A : Type 0} → (A → List ℕ) → List A → List ℕ
 each f [] = []
 each f (x ∷ xs) = f x ++ each f xs
 
--- "HashMap: repr(x.len() as u32), for (k, v) in x.sorted_by_key(): repr(k), repr(v)": f encodes a key with its value
+-- "HashMap: repr(x.len() as u32), for (k, v) in x.sorted_by_key(): repr(k), repr(v)": f encodes a key with its value, and the entries are given in
+-- the order of their keys, which `ascending` says
 unfoldable pub sortedMap : {A : Type 0} → (A → List ℕ) → List A → List ℕ
 sortedMap f xs = u32 (length xs) ++ each f xs
-
-abbrev pub both : Bool → Bool → Bool
-both true b = b
-both false b = false
 
 -- sorted by key and no key twice: each key comes after the one before it, and the first after a given text (the empty one lets any other pass)
 unfoldable pub ascending : {A : Type 0} → (A → List ℕ) → List ℕ → List A → Bool
 ascending key before [] = true
-ascending key before (x ∷ xs) = both (comesBefore before (key x)) (ascending key (key x) xs)
+ascending key before (x ∷ xs) = comesBefore before (key x) && ascending key (key x) xs

@@ -1,6 +1,6 @@
 -- Laws of the encodings: how long they are, that they are bytes, that no two values share one, and what the order of keys says. Assumes nothing.
 use mathlib.Core.Path.{_≡_, refl, sym, ap, _∙_}
-use mathlib.Core.Bool.{Bool, true, false, false≢true}
+use mathlib.Core.Bool.{Bool, true, false, false≢true, _&&_}
 use mathlib.Core.List.{List, [], _∷_, _++_, append-assoc}
 use Prim.Native.Nat.{ℕ, _+_, _<_, _^_}
 use native.Mathlib.Omega.{arith}
@@ -9,7 +9,7 @@ use lib.Seq.{take-at, drop-at}
 use Rattle.octets.specs.Bytes.{put, put-append}
 use Rattle.octets.specs.Number.{le, Bytes, length-le, le-inj, bytes-le, bytes-append}
 use Rattle.octets.specs.Compare.{comesBefore}
-use Rattle.borsh.specs.Encoding.{vec, each, sortedMap, both, ascending}
+use Rattle.borsh.specs.Encoding.{vec, each, sortedMap, ascending}
 
 -- ---- how long
 
@@ -71,15 +71,15 @@ vec-inj a b r t f g e =
 
 -- ---- both, and the order of keys
 
-pub both-left : (a b : Bool) → both a b ≡ true → a ≡ true
+pub both-left : (a b : Bool) → (a && b) ≡ true → a ≡ true
 both-left true b e = refl
 both-left false b e = e
 
-pub both-right : (a b : Bool) → both a b ≡ true → b ≡ true
+pub both-right : (a b : Bool) → (a && b) ≡ true → b ≡ true
 both-right true b e = e
 both-right false b e = absurd (false≢true e)
 
-pub both-true : (a b : Bool) → a ≡ true → b ≡ true → both a b ≡ true
+pub both-true : (a b : Bool) → a ≡ true → b ≡ true → (a && b) ≡ true
 both-true a b p q = rw (p, q)
 
 module _ {A : Type 0} (key : A → List ℕ) (before : List ℕ) where

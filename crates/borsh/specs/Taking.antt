@@ -1,5 +1,5 @@
 -- What a reader finds at a place of the bytes that it reads. Assumes nothing.
-use mathlib.Core.Bool.{Bool, true, false}
+use mathlib.Core.Bool.{Bool, true, false, cond}
 use mathlib.Core.List.{List}
 use Prim.Native.Nat.{ℕ, _+_}
 use lib.Dec.{leb}
@@ -14,22 +14,14 @@ use Rattle.borsh.specs.declared.TakenBytes.the-variants.{Bytes, ShortByt
 abbrev pub cursor : ℕ → Cursor
 cursor at = record { at = at }
 
-abbrev pub pickNumber : Bool → TakenNumber → TakenNumber → TakenNumber
-pickNumber true a b = a
-pickNumber false a b = b
-
-abbrev pub pickBytes : Bool → TakenBytes → TakenBytes → TakenBytes
-pickBytes true a b = a
-pickBytes false a b = b
-
 -- a number of k bytes, and the place behind it
 unfoldable pub takeNumber : ℕ → List ℕ → ℕ → TakenNumber
-takeNumber k s at = pickNumber (leb (at + k) (length s)) (Number (numAt k s at) (cursor (at + k))) ShortNumber
+takeNumber k s at = cond (leb (at + k) (length s)) (Number (numAt k s at) (cursor (at + k))) ShortNumber
 
 -- n bytes: where they start, how many they are, and the place behind them
 unfoldable pub takeArray : ℕ → List ℕ → ℕ → TakenBytes
-takeArray n s at = pickBytes (leb (at + n) (length s)) (Bytes at n (cursor (at + n))) ShortBytes
+takeArray n s at = cond (leb (at + n) (length s)) (Bytes at n (cursor (at + n))) ShortBytes
 
 -- bytes behind their length
 unfoldable pub takeVec : List ℕ → ℕ → TakenBytes
-takeVec s at = pickBytes (leb (at + 4) (length s)) (takeArray (numAt 4 s at) s (at + 4)) ShortBytes
+takeVec s at = cond (leb (at + 4) (length s)) (takeArray (numAt 4 s at) s (at + 4)) ShortBytes

@@ -1,6 +1,6 @@
 -- What the loops over a list's tapes come to, turn by turn: the test whether it may be stored, and its encoding. Assumes nothing.
 use mathlib.Core.Path.{_≡_, refl, sym, ap, _∙_}
-use mathlib.Core.Bool.{Bool, true, false}
+use mathlib.Core.Bool.{Bool, true, false, _&&_}
 use mathlib.Core.List.{List, [], _∷_, _++_, map, map-append, append-nil}
 use Prim.Native.Nat.{ℕ, zero, suc, _+_, _-_, _≤_, _<_}
 use native.Mathlib.Numerals.{add-one}
@@ -11,7 +11,7 @@ use lib.ListN.{length, take, drop, getD, length-append, length-take, length-map,
 use lib.Seq.{drop-cons, take-suc, take-add, length-take-le, getD-take}
 use Rattle.octets.specs.Bytes.{put, put-append}
 use Rattle.octets.specs.Number.{length-le}
-use Rattle.borsh.specs.Encoding.{u32, u64, vec, each, sortedMap, both}
+use Rattle.borsh.specs.Encoding.{u32, u64, vec, each, sortedMap}
 use Rattle.borsh.specs.Laws.{length-vec, each-append, both-left, both-right}
 use Rattle.metadata.proofs.list.TapeMetadata.{the-type}
 use Rattle.metadata.specs.declared.list.TapeMetadata.{TapeMetadata}
@@ -30,7 +30,7 @@ eight ts e = sym (length-map ts (the-type .to)) ∙ e
 
 -- ---- the test
 
-both-assoc : (a b c : Bool) → both a (both b c) ≡ both (both a b) c
+both-assoc : (a b c : Bool) → (a && (b && c)) ≡ ((a && b) && c)
 both-assoc true b c = refl
 both-assoc false b c = refl
 
@@ -45,7 +45,7 @@ module _ (ts : List TapeMetadata) (n i : ℕ) (before : List ℕ) where
   storable-end h = rw (drop-of-length-le (take n ts) {i = i} (rw length-take (omega arith)))
 
   module _ (d : TapeMetadata) (low : i < n) (inside : i < length ts) where
-    turn : storableAfter before (drop i (take n ts)) ≡ both (both (leb (getD ts i d .letters) 24) (fits before (meaning (getD ts i d)))) (storableAfter (meaning (getD ts i d) .name) (drop (i + 1) (take n ts)))
+    turn : storableAfter before (drop i (take n ts)) ≡ (((leb (getD ts i d .letters) 24) && (fits before (meaning (getD ts i d)))) && (storableAfter (meaning (getD ts i d) .name) (drop (i + 1) (take n ts))))
     unfolding storableAfter
     turn =
         let t = getD ts i d in
@@ -55,18 +55,18 @@ module _ (ts : List TapeMetadata) (n i : ℕ) (before : List ℕ) where
         ap (storableAfter before) cut
         ∙ both-assoc (leb (t .letters) 24) (fits before (meaning t)) (storableAfter (meaning t .name) (drop (i + 1) (take n ts)))
 
-    pub storable-go : both (leb (getD ts i d .letters) 24) (fits before (meaning (getD ts i d))) ≡ true → storableAfter before (drop i (take n ts)) ≡ storableAfter (meaning (getD ts i d) .name) (drop (i + 1) (take n ts))
-    storable-go e = turn ∙ ap (λ (b : Bool). both b (storableAfter (meaning (getD ts i d) .name) (drop (i + 1) (take n ts)))) e
+    pub storable-go : ((leb (getD ts i d .letters) 24) && (fits before (meaning (getD ts i d)))) ≡ true → storableAfter before (drop i (take n ts)) ≡ storableAfter (meaning (getD ts i d) .name) (drop (i + 1) (take n ts))
+    storable-go e = turn ∙ ap (λ (b : Bool). (b && (storableAfter (meaning (getD ts i d) .name) (drop (i + 1) (take n ts))))) e
 
-    pub storable-stop : both (leb (getD ts i d .letters) 24) (fits before (meaning (getD ts i d))) ≡ false → storableAfter before (drop i (take n ts)) ≡ false
-    storable-stop e = turn ∙ ap (λ (b : Bool). both b (storableAfter (meaning (getD ts i d) .name) (drop (i + 1) (take n ts)))) e
+    pub storable-stop : ((leb (getD ts i d .letters) 24) && (fits before (meaning (getD ts i d)))) ≡ false → storableAfter before (drop i (take n ts)) ≡ false
+    storable-stop e = turn ∙ ap (λ (b : Bool). (b && (storableAfter (meaning (getD ts i d) .name) (drop (i + 1) (take n ts))))) e
 
 -- each tape of a list that may be stored has its name in its array
 letters-after : (ts : List TapeMetadata) (i : ℕ) (before : List ℕ) (d : TapeMetadata) → storableAfter before ts ≡ true → i < length ts → getD ts i d .letters ≤ 24
 unfolding storableAfter
 letters-after [] i before d e h = absurd (omega arith)
 letters-after (t ∷ ts) zero before d e h =
-    leb-true (t .letters) 24 (both-left (leb (t .letters) 24) (both (fits before (meaning t)) (storableAfter (meaning t .name) ts)) e)
+    leb-true (t .letters) 24 (both-left (leb (t .letters) 24) ((fits before (meaning t)) && (storableAfter (meaning t .name) ts)) e)
 letters-after (t ∷ ts) (suc i) before d e h =
     let rest = storableAfter (meaning t .name) ts in
     letters-after
@@ -74,7 +74,7 @@ letters-after (t ∷ ts) (suc i) before d e h =
     i
     (meaning t .name)
     d
-    (both-right (fits before (meaning t)) rest (both-right (leb (t .letters) 24) (both (fits before (meaning t)) rest) e))
+    (both-right (fits before (meaning t)) rest (both-right (leb (t .letters) 24) ((fits before (meaning t)) && rest) e))
     (omega arith)
 
 -- ---- the encoding

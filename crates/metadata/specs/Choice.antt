@@ -1,6 +1,6 @@
 -- Document 01, "The record": "Left is chosen if its epoch is larger, else right; the chosen record is handed on as the caller's own bytes (none where
 -- it counts as empty). The next write goes to the other file." Assumes nothing.
-use mathlib.Core.Bool.{Bool, true, false}
+use mathlib.Core.Bool.{Bool, true, false, cond}
 use mathlib.Core.List.{List, []}
 use Prim.Native.Nat.{ℕ, _+_}
 use lib.Dec.{ltb}
@@ -10,7 +10,7 @@ use Rattle.metadata.specs.declared.record.Reading.{Reading}
 use Rattle.metadata.specs.declared.record.Reading.the-variants.{Whole, Empty}
 use Rattle.metadata.specs.declared.choice.Side.{Side}
 use Rattle.metadata.specs.declared.choice.Side.the-variants.{Left, Right}
-use Rattle.metadata.specs.Decoding.{Listing, tapes, decodeList, pickListing}
+use Rattle.metadata.specs.Decoding.{Listing, tapes, decodeList}
 use Rattle.metadata.specs.Record.{readRecord}
 
 abbrev pub epochOf : Reading → ℕ
@@ -22,31 +22,19 @@ abbrev pub partOf : List ℕ → Reading → List ℕ
 partOf s (Whole epoch list) = take (48 + list) s
 partOf s Empty = []
 
-abbrev pub pickBytes : Bool → List ℕ → List ℕ → List ℕ
-pickBytes true a b = a
-pickBytes false a b = b
-
-abbrev pub pickSide : Bool → Side → Side → Side
-pickSide true a b = a
-pickSide false a b = b
-
-abbrev pub pickNumber : Bool → ℕ → ℕ → ℕ
-pickNumber true a b = a
-pickNumber false a b = b
-
 -- the epoch in left is the larger
 unfoldable pub leftCounts : List ℕ → List ℕ → Bool
 leftCounts left right = ltb (epochOf (readRecord right)) (epochOf (readRecord left))
 
 unfoldable pub chosen : List ℕ → List ℕ → List ℕ
-chosen left right = pickBytes (leftCounts left right) (partOf left (readRecord left)) (partOf right (readRecord right))
+chosen left right = cond (leftCounts left right) (partOf left (readRecord left)) (partOf right (readRecord right))
 
 unfoldable pub nextSide : List ℕ → List ℕ → Side
-nextSide left right = pickSide (leftCounts left right) Right Left
+nextSide left right = cond (leftCounts left right) Right Left
 
 -- the epoch and the list of a record that was chosen: 0 and the empty list where it counts as empty
 unfoldable pub chosenEpoch : List ℕ → ℕ
-chosenEpoch r = pickNumber (ltb (length r) 48) 0 (numAt 8 r 36)
+chosenEpoch r = cond (ltb (length r) 48) 0 (numAt 8 r 36)
 
 unfoldable pub chosenList : List ℕ → Listing
-chosenList r = pickListing (ltb (length r) 48) (tapes []) (decodeList (drop 48 r))
+chosenList r = cond (ltb (length r) 48) (tapes []) (decodeList (drop 48 r))

@@ -1,10 +1,9 @@
 -- The tape list read from bytes: what document 01 answers 17 is `unreadable`. Assumes nothing.
-use mathlib.Core.Bool.{Bool, true, false}
+use mathlib.Core.Bool.{Bool, true, false, cond}
 use mathlib.Core.List.{List, [], _∷_}
 use Prim.Native.Nat.{ℕ, zero, suc}
 use lib.Dec.{leb, eqb}
 use lib.ListN.{length, take, drop}
-use Rattle.borsh.specs.declared.Cursor.{Cursor}
 use Rattle.borsh.specs.declared.TakenNumber.{TakenNumber}
 use Rattle.borsh.specs.declared.TakenNumber.the-variants.{Number, ShortNumber}
 use Rattle.borsh.specs.declared.TakenBytes.{TakenBytes}
@@ -35,14 +34,10 @@ withName s ShortBytes = NotFound
 unfoldable pub takeTape : List ℕ → ℕ → TakenTape
 takeTape s at = withName s (takeVec s at)
 
--- the same, where the tape may stand behind the name before it
-abbrev pub pickTape : Bool → TakenTape → TakenTape → TakenTape
-pickTape true a b = a
-pickTape false a b = b
-
+-- the tape that was found, if it may stand behind the name before it
 abbrev pub allowed : List ℕ → List ℕ → TakenTape → TakenTape
 allowed before s (Found place letters len start next) =
-    pickTape (fits before (tapeAt s place letters len start)) (Found place letters len start next) NotFound
+    cond (fits before (tapeAt s place letters len start)) (Found place letters len start next) NotFound
 allowed before s NotFound = NotFound
 
 unfoldable pub nextTape : List ℕ → List ℕ → ℕ → TakenTape
@@ -50,27 +45,23 @@ nextTape before s at = allowed before s (takeTape s at)
 
 -- ---- the list
 
-abbrev pub pickListing : Bool → Listing → Listing → Listing
-pickListing true a b = a
-pickListing false a b = b
-
 -- a tape in front of the rest
-abbrev pub behind : Tape → Listing → Listing
-behind t (tapes ts) = tapes (t ∷ ts)
-behind t unreadable = unreadable
+abbrev pub prepend : Tape → Listing → Listing
+prepend t (tapes ts) = tapes (t ∷ ts)
+prepend t unreadable = unreadable
 
 -- a tape that was found, in front of what is read from the place behind it
 abbrev pub goOn : List ℕ → TakenTape → (List ℕ → ℕ → Listing) → Listing
-goOn s (Found place letters len start next) rest = behind (tapeAt s place letters len start) (rest (take letters (drop place s)) (next .at))
+goOn s (Found place letters len start next) rest = prepend (tapeAt s place letters len start) (rest (take letters (drop place s)) (next .at))
 goOn s NotFound rest = unreadable
 
 -- so many tapes from a place on, the first behind a name, and no byte over
 unfoldable pub decodeFrom : ℕ → List ℕ → List ℕ → ℕ → Listing
-decodeFrom zero before s at = pickListing (eqb at (length s)) (tapes []) unreadable
+decodeFrom zero before s at = cond (eqb at (length s)) (tapes []) unreadable
 decodeFrom (suc k) before s at = goOn s (nextTape before s at) (λ name next. decodeFrom k name s next)
 
 abbrev pub counted : List ℕ → TakenNumber → Listing
-counted s (Number count next) = pickListing (leb count 8) (decodeFrom count [] s (next .at)) unreadable
+counted s (Number count next) = cond (leb count 8) (decodeFrom count [] s (next .at)) unreadable
 counted s ShortNumber = unreadable
 
 -- the count, at most 8 of it, and the tapes

@@ -1,7 +1,7 @@
 -- Laws of the reading of the tape list: what a tape that is found was read from, and the turns of the loop that reads one after the other. Assumes nothing.
 use mathlib.Core.Path.{_≡_, refl, sym, ap, _∙_}
 use mathlib.Core.Logic.{_≢_}
-use mathlib.Core.Bool.{Bool, true, false}
+use mathlib.Core.Bool.{Bool, true, false, _&&_}
 use mathlib.Core.List.{List, [], _∷_, _++_, map, map-append, append-assoc}
 use Prim.Native.Nat.{ℕ, zero, suc, _+_, _-_, _≤_, _<_}
 use native.Mathlib.Nat.{sub-zero, zero-sub, suc-sub-suc}
@@ -18,7 +18,6 @@ use Rattle.borsh.specs.declared.TakenNumber.{TakenNumber}
 use Rattle.borsh.specs.declared.TakenNumber.the-variants.{Number, ShortNumber}
 use Rattle.borsh.specs.declared.TakenBytes.{TakenBytes}
 use Rattle.borsh.specs.declared.TakenBytes.the-variants.{Bytes, ShortBytes}
-use Rattle.borsh.specs.Encoding.{both}
 use Rattle.borsh.specs.Taking.{takeNumber, takeVec}
 use Rattle.borsh.specs.Laws.{both-left, both-right}
 use Rattle.borsh.specs.Back.{take-array-was, take-vec-fits, take-vec-short}
@@ -28,7 +27,7 @@ use Rattle.metadata.specs.declared.decode.TakenTape.the-variants.{Found,
 use Rattle.metadata.specs.Name.{nameRule}
 use Rattle.metadata.specs.NameLaws.{rule-fits}
 use Rattle.metadata.specs.Tapes.{Tape, tapeAt, fits, Part}
-use Rattle.metadata.specs.Decoding.{Listing, tapes, unreadable, withName, withLen, withStart, takeTape, nextTape, allowed, behind, decodeFrom, decodeList}
+use Rattle.metadata.specs.Decoding.{Listing, tapes, unreadable, withName, withLen, withStart, takeTape, nextTape, allowed, prepend, decodeFrom, decodeList}
 use Rattle.metadata.specs.Struct.{stored, blank}
 
 -- ---- a tape that may stand behind a name
@@ -36,11 +35,11 @@ use Rattle.metadata.specs.Struct.{stored, blank}
 module _ (before : List ℕ) (t : Tape) where
   pub fits-after : fits before t ≡ true → comesBefore before (t .name) ≡ true
   unfolding fits
-  fits-after e = both-left (comesBefore before (t .name)) (both (nameRule (t .name)) (leb (t .start) (t .len))) e
+  fits-after e = both-left (comesBefore before (t .name)) ((nameRule (t .name)) && (leb (t .start) (t .len))) e
 
-  fits-rest : fits before t ≡ true → both (nameRule (t .name)) (leb (t .start) (t .len)) ≡ true
+  fits-rest : fits before t ≡ true → ((nameRule (t .name)) && (leb (t .start) (t .len))) ≡ true
   unfolding fits
-  fits-rest e = both-right (comesBefore before (t .name)) (both (nameRule (t .name)) (leb (t .start) (t .len))) e
+  fits-rest e = both-right (comesBefore before (t .name)) ((nameRule (t .name)) && (leb (t .start) (t .len))) e
 
   pub fits-name : fits before t ≡ true → nameRule (t .name) ≡ true
   fits-name e = both-left (nameRule (t .name)) (leb (t .start) (t .len)) (fits-rest e)
@@ -198,30 +197,30 @@ module _ (before s : List ℕ) (at : ℕ) {place letters len start : ℕ} {next 
 -- ---- tapes one after the other
 
 -- tapes in front of the rest
-unfoldable pub behindAll : List Tape → Listing → Listing
-behindAll [] l = l
-behindAll (t ∷ ts) l = behind t (behindAll ts l)
+unfoldable pub prependAll : List Tape → Listing → Listing
+prependAll [] l = l
+prependAll (t ∷ ts) l = prepend t (prependAll ts l)
 
-pub behindAll-snoc : (ts : List Tape) (t : Tape) (l : Listing) → behindAll (ts ++ (t ∷ [])) l ≡ behindAll ts (behind t l)
-unfolding behindAll
-behindAll-snoc [] t l = refl
-behindAll-snoc (u ∷ ts) t l = ap (behind u) (behindAll-snoc ts t l)
+pub prependAll-snoc : (ts : List Tape) (t : Tape) (l : Listing) → prependAll (ts ++ (t ∷ [])) l ≡ prependAll ts (prepend t l)
+unfolding prependAll
+prependAll-snoc [] t l = refl
+prependAll-snoc (u ∷ ts) t l = ap (prepend u) (prependAll-snoc ts t l)
 
-pub behindAll-tapes : (ts us : List Tape) → behindAll ts (tapes us) ≡ tapes (ts ++ us)
-unfolding behindAll
-behindAll-tapes [] us = refl
-behindAll-tapes (t ∷ ts) us = ap (behind t) (behindAll-tapes ts us)
+pub prependAll-tapes : (ts us : List Tape) → prependAll ts (tapes us) ≡ tapes (ts ++ us)
+unfolding prependAll
+prependAll-tapes [] us = refl
+prependAll-tapes (t ∷ ts) us = ap (prepend t) (prependAll-tapes ts us)
 
-pub behindAll-unreadable : (ts : List Tape) → behindAll ts unreadable ≡ unreadable
-unfolding behindAll
-behindAll-unreadable [] = refl
-behindAll-unreadable (t ∷ ts) = ap (behind t) (behindAll-unreadable ts)
+pub prependAll-unreadable : (ts : List Tape) → prependAll ts unreadable ≡ unreadable
+unfolding prependAll
+prependAll-unreadable [] = refl
+prependAll-unreadable (t ∷ ts) = ap (prepend t) (prependAll-unreadable ts)
 
 module _ (count i : ℕ) (before s : List ℕ) (at : ℕ) where
   -- one more of them
   pub decode-step : {place letters len start : ℕ} {next : Cursor} → i < count → nextTape before s at ≡ Found place letters len start next
       → decodeFrom (count - i) before s at
-      ≡ behind (tapeAt s place letters len start) (decodeFrom (count - (i + 1)) (take letters (drop place s)) s (next .at))
+      ≡ prepend (tapeAt s place letters len start) (decodeFrom (count - (i + 1)) (take letters (drop place s)) s (next .at))
   unfolding decodeFrom
   decode-step l e =
       let k : count - i ≡ suc (count - (i + 1)) = omega arith in

@@ -1,5 +1,5 @@
 -- What a request to write answers, and what the caller's buffer then holds. Assumes nothing.
-use mathlib.Core.Bool.{Bool, true, false}
+use mathlib.Core.Bool.{Bool, true, false, cond}
 use mathlib.Core.List.{List}
 use Prim.Native.Nat.{ℕ}
 use lib.Dec.{leb}
@@ -19,15 +19,11 @@ pub record After : Type 0 where
 abbrev pub after : Encoded → List ℕ → After
 after a b = record { answer = a; bytes = b }
 
-abbrev pub pick : Bool → After → After → After
-pick true a b = a
-pick false a b = b
-
 -- bytes that go to the front of a buffer, if the list may be stored and they fit
 unfoldable pub writes : TapeList → List ℕ → List ℕ → After
 writes list bytes out =
-    pick (storable list)
-    (pick (leb (length bytes) (length out)) (after (Written (length bytes)) (put out 0 bytes)) (after NoRoom out))
+    cond (storable list)
+    (cond (leb (length bytes) (length out)) (after (Written (length bytes)) (put out 0 bytes)) (after NoRoom out))
     (after NotStorable out)
 
 abbrev pub writesList : TapeList → List ℕ → After

@@ -1,25 +1,20 @@
 -- Document 01, "What is carried over": names have 1 to 24 bytes from a-z, 0-9, `_`, `-`. Assumes nothing.
-use mathlib.Core.Bool.{Bool, true, false}
+use mathlib.Core.Bool.{Bool, true, false, _&&_, _||_}
 use mathlib.Core.List.{List, [], _∷_}
 use Prim.Native.Nat.{ℕ}
 use lib.Dec.{leb, eqb}
 use lib.ListN.{length}
-use Rattle.borsh.specs.Encoding.{both}
-
-abbrev pub either : Bool → Bool → Bool
-either true b = true
-either false b = b
 
 abbrev pub between : ℕ → ℕ → ℕ → Bool
-between low high n = both (leb low n) (leb n high)
+between low high n = leb low n && leb n high
 
 -- a-z, 0-9, `_` or `-`
 unfoldable pub nameByte : ℕ → Bool
-nameByte b = either (between 97 122 b) (either (between 48 57 b) (either (eqb b 95) (eqb b 45)))
+nameByte b = between 97 122 b || (between 48 57 b || (eqb b 95 || eqb b 45))
 
 unfoldable pub nameBytes : List ℕ → Bool
 nameBytes [] = true
-nameBytes (b ∷ bs) = both (nameByte b) (nameBytes bs)
+nameBytes (b ∷ bs) = nameByte b && nameBytes bs
 
 unfoldable pub nameRule : List ℕ → Bool
-nameRule name = both (between 1 24 (length name)) (nameBytes name)
+nameRule name = between 1 24 (length name) && nameBytes name

@@ -1,11 +1,10 @@
 -- Document 01, "The record": version u32 = 1, hash of 32 bytes, epoch u64, the tape list as u32 length and bytes. Assumes nothing.
-use mathlib.Core.Bool.{Bool, true, false}
+use mathlib.Core.Bool.{Bool, true, false, cond}
 use mathlib.Core.List.{List, [], _∷_, _++_}
 use Prim.Native.Nat.{ℕ, _+_}
-use lib.ListN.{length, take, drop}
+use lib.ListN.{take, drop}
 use Rattle.octets.specs.Compare.{sameBytes}
 use Rattle.blake2b.specs.Blake2b.{blake2b}
-use Rattle.borsh.specs.declared.Cursor.{Cursor}
 use Rattle.borsh.specs.declared.TakenNumber.{TakenNumber}
 use Rattle.borsh.specs.declared.TakenNumber.the-variants.{Number, ShortNumber}
 use Rattle.borsh.specs.declared.TakenBytes.{TakenBytes}
@@ -40,13 +39,9 @@ writesRecord epoch list out = writes list (encodeRecord epoch (encodeList (tapes
 -- ---- reading: "short data or a wrong hash counts as epoch 0 with an empty list; bytes after the record are ignored. The stored version is not
 -- looked at."
 
-abbrev pub pickReading : Bool → Reading → Reading → Reading
-pickReading true a b = a
-pickReading false a b = b
-
 abbrev pub withList : List ℕ → ℕ → ℕ → TakenBytes → Reading
 withList s hash epoch (Bytes list n next) =
-    pickReading (sameBytes (take 32 (drop hash s)) (hashOf epoch (take n (drop list s)))) (Whole epoch n) Empty
+    cond (sameBytes (take 32 (drop hash s)) (hashOf epoch (take n (drop list s)))) (Whole epoch n) Empty
 withList s hash epoch ShortBytes = Empty
 
 abbrev pub withEpoch : List ℕ → ℕ → TakenNumber → Reading

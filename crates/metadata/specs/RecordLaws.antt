@@ -1,7 +1,7 @@
 -- The record written and read, and the record that is chosen: what was written is read back whatever stands behind it, what was read is what
 -- `encodeRecord` writes, and what is handed on says what was read. Assumes nothing.
 use mathlib.Core.Path.{_≡_, refl, sym, ap, _∙_}
-use mathlib.Core.Bool.{Bool, true, false}
+use mathlib.Core.Bool.{Bool, true, false, cond}
 use mathlib.Core.List.{List, [], _++_, append-assoc}
 use Prim.Native.Nat.{ℕ, zero, suc, _+_, _≤_, _<_, _^_}
 use native.Mathlib.Omega.{arith}
@@ -29,7 +29,7 @@ use Rattle.metadata.specs.Decoding.{tapes, decodeList}
 use Rattle.metadata.specs.Struct.{tapesOf, storable}
 use Rattle.metadata.specs.StructLaws.{length-encodeList, storable-good}
 use Rattle.metadata.specs.RoundTrip.{Sizes, decode-encode}
-use Rattle.metadata.specs.Record.{hashOf, encodeRecord, pickReading, withList, withEpoch, withHash, withVersion, readRecord}
+use Rattle.metadata.specs.Record.{hashOf, encodeRecord, withList, withEpoch, withHash, withVersion, readRecord}
 use Rattle.metadata.specs.Choice.{epochOf, partOf, leftCounts, chosen, nextSide, chosenEpoch, chosenList}
 
 -- ---- how long
@@ -79,7 +79,7 @@ module _ (s : List ℕ) where
         -- all of it: then the hash decides
         pub read-all : {list n : ℕ} {d : Cursor} → takeVec s (c .at) ≡ Bytes list n d
             → readRecord s
-            ≡ pickReading (sameBytes (take 32 (drop hash s)) (hashOf epoch (take n (drop list s)))) (Whole epoch n) Empty
+            ≡ cond (sameBytes (take 32 (drop hash s)) (hashOf epoch (take n (drop list s)))) (Whole epoch n) Empty
         unfolding readRecord
         read-all long = ap (withVersion s) p ∙ ap (withHash s) q ∙ ap (withEpoch s hash) r ∙ ap (withList s hash epoch) long
 
@@ -109,7 +109,7 @@ module _ (s : List ℕ) where
   -- a record that is all there: the hash decides
   pub read-long : 48 + numAt 4 s 44 ≤ length s
       → readRecord s
-      ≡ pickReading (sameBytes (take 32 (drop 4 s)) (hashOf (numAt 8 s 36) (take (numAt 4 s 44) (drop 48 s)))) (Whole (numAt 8 s 36) (numAt 4 s 44)) Empty
+      ≡ cond (sameBytes (take 32 (drop 4 s)) (hashOf (numAt 8 s 36) (take (numAt 4 s 44) (drop 48 s)))) (Whole (numAt 8 s 36) (numAt 4 s 44)) Empty
   read-long h =
       read-all s (take-number-fits 4 s 0 (omega arith)) (take-array-fits 32 s 4 (omega arith)) (take-number-fits 8 s 36 (omega arith))
       (take-vec-fits s 44 (omega arith) ∙ take-array-fits (numAt 4 s 44) s 48 h)
@@ -131,7 +131,7 @@ seen s {e} {n} whole = by-end (leb (48 + numAt 4 s 44) (length s)) refl
     by-hash : 48 + numAt 4 s 44 ≤ length s → (t : Bool) → sameBytes (take 32 (drop 4 s)) (hashOf (numAt 8 s 36) (take (numAt 4 s 44) (drop 48 s))) ≡ t → Seen s e n
     by-hash fits true q =
         let same : Whole (numAt 8 s 36) (numAt 4 s 44) ≡ Whole e n
-        = ap (λ (t : Bool). pickReading t (Whole (numAt 8 s 36) (numAt 4 s 44)) Empty) (sym q) ∙ sym (read-long s fits) ∙ whole in
+        = ap (λ (t : Bool). cond t (Whole (numAt 8 s 36) (numAt 4 s 44)) Empty) (sym q) ∙ sym (read-long s fits) ∙ whole in
         let epoch : numAt 8 s 36 ≡ e = cc in
         let size : numAt 4 s 44 ≡ n = cc in
         record {
@@ -140,7 +140,7 @@ seen s {e} {n} whole = by-end (leb (48 + numAt 4 s 44) (length s)) refl
           size = size;
           hash = rw (← epoch, ← size) (same-true (take 32 (drop 4 s)) (hashOf (numAt 8 s 36) (take (numAt 4 s 44) (drop 48 s))) q);
         }
-    by-hash fits false q = never (read-long s fits ∙ ap (λ (t : Bool). pickReading t (Whole (numAt 8 s 36) (numAt 4 s 44)) Empty) q)
+    by-hash fits false q = never (read-long s fits ∙ ap (λ (t : Bool). cond t (Whole (numAt 8 s 36) (numAt 4 s 44)) Empty) q)
 
     by-end : (t : Bool) → leb (48 + numAt 4 s 44) (length s) ≡ t → Seen s e n
     by-end true q =

@@ -1,7 +1,7 @@
 -- The tape list written and read: what was written is read back, and what was read is written as it stood. Assumes nothing.
 use Prim.{Unit, tt}
 use mathlib.Core.Path.{_≡_, refl, sym, ap, _∙_, subst}
-use mathlib.Core.Bool.{Bool, true}
+use mathlib.Core.Bool.{Bool, true, cond}
 use mathlib.Core.List.{List, [], _∷_, _++_, append-assoc}
 use Prim.Native.Nat.{ℕ, zero, suc, _+_, _≤_, _<_, _^_}
 use native.Mathlib.Omega.{arith}
@@ -20,7 +20,7 @@ use Rattle.borsh.specs.Back.{take-number-back, take-vec-back, take-number-was, 
 use Rattle.metadata.specs.declared.decode.TakenTape.{TakenTape}
 use Rattle.metadata.specs.declared.decode.TakenTape.the-variants.{Found, NotFound}
 use Rattle.metadata.specs.Tapes.{Tape, encodeTape, encodeList, fits, goodAfter, goodList, tapeAt}
-use Rattle.metadata.specs.Decoding.{tapes, unreadable, withStart, withLen, withName, takeTape, pickTape, allowed, nextTape, pickListing, behind, goOn, decodeFrom, counted, decodeList}
+use Rattle.metadata.specs.Decoding.{tapes, unreadable, withStart, withLen, withName, takeTape, allowed, nextTape, prepend, goOn, decodeFrom, counted, decodeList}
 use Rattle.metadata.specs.Rules.{tape, tape-fields, fits-true, good-first, good-others, good-few, good-tapes}
 use Rattle.metadata.specs.Taken.{fields, step, ended, head}
 
@@ -96,7 +96,7 @@ read-tape s at t rest short len start here =
 
 -- a tape that may stand behind a name, and the tapes behind it
 decode-step : (k : ℕ) (before s : List ℕ) (at : ℕ) (t : Tape) (rest : List ℕ) → fits before t ≡ true → Read s at t rest
-    → decodeFrom (suc k) before s at ≡ behind t (decodeFrom k (t .name) s (end at t))
+    → decodeFrom (suc k) before s at ≡ prepend t (decodeFrom k (t .name) s (end at t))
 unfolding decodeFrom nextTape
 decode-step k before s at t rest ok r =
     let n = length (t .name) in
@@ -104,10 +104,10 @@ decode-step k before s at t rest ok r =
     = ap (λ (l : List ℕ). tape l (t .len) (t .start)) (r .name) in
     let found = Found (at + 4) n (t .len) (t .start) (cursor (end at t)) in
     let next : allowed before s (takeTape s at) ≡ found
-    = ap (allowed before s) (r .found) ∙ ap (λ (u : Tape). pickTape (fits before u) found NotFound) same ∙ ap (λ (b : Bool). pickTape b found NotFound) ok in
+    = ap (allowed before s) (r .found) ∙ ap (λ (u : Tape). cond (fits before u) found NotFound) same ∙ ap (λ (b : Bool). cond b found NotFound) ok in
     ap (λ (f : TakenTape). goOn s f (λ name place. decodeFrom k name s place)) next
-    ∙ ap (λ (u : Tape). behind u (decodeFrom k (take n (drop (at + 4) s)) s (end at t))) same
-    ∙ ap (λ (l : List ℕ). behind t (decodeFrom k l s (end at t))) (r .name)
+    ∙ ap (λ (u : Tape). prepend u (decodeFrom k (take n (drop (at + 4) s)) s (end at t))) same
+    ∙ ap (λ (l : List ℕ). prepend t (decodeFrom k l s (end at t))) (r .name)
 
 -- the law that goes through an induction: good tapes that stand from a place on up to the end
 decode-stands : (ts : List Tape) (before s : List ℕ) (at : ℕ) → goodAfter before ts ≡ true → Sizes ts → Stands s at (each encodeTape ts) → decodeFrom (length ts) before s at ≡ tapes ts
@@ -121,7 +121,7 @@ decode-stands (t ∷ ts) before s at good sizes here =
     let len : t .len < 2 ^ 64 = sizes .0 in
     let r = read-tape s at t (each encodeTape ts) (omega arith) (omega arith) (omega arith) here in
     decode-step (length ts) before s at t (each encodeTape ts) ok r
-    ∙ ap (behind t) (decode-stands ts (t .name) s (end at t) (good-others before t ts good) (sizes .1) (r .next))
+    ∙ ap (prepend t) (decode-stands ts (t .name) s (end at t) (good-others before t ts good) (sizes .1) (r .next))
 
 -- a good list is read back as it was written
 pub decode-encode : (ts : List Tape) → goodList ts ≡ true → Sizes ts → decodeList (encodeList ts) ≡ tapes ts
@@ -131,7 +131,7 @@ decode-encode ts good sizes =
     let few : length ts ≤ 8 = good-few ts good in
     let here : Stands s 0 s = record { inside = omega arith; bytes = refl } in
     ap (counted s) (number-stands 4 s 0 (length ts) (each encodeTape ts) (omega arith) here)
-    ∙ ap (λ (b : Bool). pickListing b (decodeFrom (length ts) [] s 4) unreadable) (le-leb (length ts) 8 few)
+    ∙ ap (λ (b : Bool). cond b (decodeFrom (length ts) [] s 4) unreadable) (le-leb (length ts) 8 few)
     ∙ decode-stands ts [] s 4 (good-tapes ts good) sizes
     (stands-behind s 0 (le 4 (length ts)) (each encodeTape ts) 4 (length-le 4 (length ts)) here)
 

@@ -1,6 +1,6 @@
 -- What the rules of a list say, and what it is written as: the fields one after the other, bytes only, sorted by name. Assumes nothing.
 use mathlib.Core.Path.{_≡_, refl, sym, _∙_}
-use mathlib.Core.Bool.{Bool, true, false, false≢true}
+use mathlib.Core.Bool.{Bool, true, false, false≢true, _&&_}
 use mathlib.Core.List.{List, [], _∷_, _++_, append-assoc}
 use Prim.Native.Nat.{ℕ, zero, suc, _≤_, _<_}
 use native.Mathlib.Omega.{arith}
@@ -9,7 +9,7 @@ use lib.Dec.{leb}
 use lib.ListN.{length}
 use Rattle.octets.specs.Number.{le, Bytes, bytes-le, bytes-append}
 use Rattle.octets.specs.Compare.{comesBefore}
-use Rattle.borsh.specs.Encoding.{vec, each, sortedMap, both, ascending}
+use Rattle.borsh.specs.Encoding.{vec, each, sortedMap, ascending}
 use Rattle.borsh.specs.Laws.{bytes-vec, both-left, both-right, ascending-nil, ascending-cons}
 use Rattle.metadata.specs.Name.{between, nameByte, nameBytes, nameRule}
 use Rattle.metadata.specs.Tapes.{Tape, encodeTape, encodeList, fits, goodAfter, goodList}
@@ -34,8 +34,8 @@ small-byte b e = by (leb b 255) refl
     by true q = let h = leb-true b 255 q in omega arith
     by false q =
         let h = leb-false b 255 q in
-        let letter : both (leb 97 b) (leb b 122) ≡ false = rw (le-leb 97 b (omega arith), lt-leb b 122 (omega arith)) in
-        let digit : both (leb 48 b) (leb b 57) ≡ false = rw (le-leb 48 b (omega arith), lt-leb b 57 (omega arith)) in
+        let letter : ((leb 97 b) && (leb b 122)) ≡ false = rw (le-leb 97 b (omega arith), lt-leb b 122 (omega arith)) in
+        let digit : ((leb 48 b) && (leb b 57)) ≡ false = rw (le-leb 48 b (omega arith), lt-leb b 57 (omega arith)) in
         let no : nameByte b ≡ false = rw (letter, digit, ne-eqb b 95 (λ i. omega arith), ne-eqb b 45 (λ i. omega arith)) in
         absurd (false≢true (sym no ∙ e))
 
@@ -61,13 +61,13 @@ fits-true before t e =
     let letters = nameBytes (t .name) in
     let inside = leb (t .start) (t .len) in
     let order = comesBefore before (t .name) in
-    let others : both (both long letters) inside ≡ true = both-right order (both (both long letters) inside) e in
-    let rule : both long letters ≡ true = both-left (both long letters) inside others in
+    let others : ((long && letters) && inside) ≡ true = both-right order ((long && letters) && inside) e in
+    let rule : (long && letters) ≡ true = both-left (long && letters) inside others in
     record {
-      order = both-left order (both (both long letters) inside) e;
+      order = both-left order ((long && letters) && inside) e;
       short = leb-true n 24 (both-right (leb 1 n) (leb n 24) (both-left long letters rule));
       bytes = bytes-name (t .name) (both-right long letters rule);
-      inside = leb-true (t .start) (t .len) (both-right (both long letters) inside others);
+      inside = leb-true (t .start) (t .len) (both-right (long && letters) inside others);
     }
 
 module _ (before : List ℕ) (t : Tape) (ts : List Tape) where

@@ -1,10 +1,9 @@
 -- The list as the code holds it: arrays with blanks behind what they hold. Assumes nothing.
-use mathlib.Core.Bool.{Bool, true, false}
+use mathlib.Core.Bool.{Bool, true, false, _&&_}
 use mathlib.Core.List.{List, [], _∷_, _++_, map}
 use Prim.Native.Nat.{ℕ, _-_}
 use lib.Dec.{leb}
 use lib.ListN.{length, take, replicate}
-use Rattle.borsh.specs.Encoding.{both}
 use Rattle.metadata.specs.declared.list.TapeMetadata.{TapeMetadata}
 use Rattle.metadata.specs.declared.list.TapeList.{TapeList}
 use Rattle.metadata.specs.declared.decode.Decoded.{Decoded}
@@ -37,8 +36,8 @@ tapesOf l = map meaning (take (l .count) (l .tapes))
 -- each tape's name lies in its array, and the tape may stand behind the one before it
 unfoldable pub storableAfter : List ℕ → List TapeMetadata → Bool
 storableAfter before [] = true
-storableAfter before (t ∷ ts) = both (leb (t .letters) 24) (both (fits before (meaning t)) (storableAfter (meaning t .name) ts))
+storableAfter before (t ∷ ts) = leb (t .letters) 24 && (fits before (meaning t) && storableAfter (meaning t .name) ts)
 
 -- a struct that a list can be stored from
 unfoldable pub storable : TapeList → Bool
-storable l = both (leb (l .count) 8) (storableAfter [] (take (l .count) (l .tapes)))
+storable l = leb (l .count) 8 && storableAfter [] (take (l .count) (l .tapes))

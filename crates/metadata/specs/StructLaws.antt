@@ -1,6 +1,6 @@
 -- Laws of the list and of the struct that holds it: how long an encoding is, and that the struct and the list say the same. Assumes nothing.
 use mathlib.Core.Path.{_≡_, refl, sym, ap, _∙_}
-use mathlib.Core.Bool.{true, false}
+use mathlib.Core.Bool.{true, false, _&&_}
 use mathlib.Core.List.{List, [], _∷_, _++_, map}
 use Prim.Native.Nat.{ℕ, _+_, _-_, _*_, _≤_, _<_}
 use native.Mathlib.Omega.{arith}
@@ -11,7 +11,7 @@ use lib.Seq.{take-append-seam, take-at}
 use Rattle.octets.specs.Bytes.{put}
 use Rattle.octets.specs.Number.{length-le}
 use Rattle.octets.specs.Compare.{comesBefore}
-use Rattle.borsh.specs.Encoding.{each, both}
+use Rattle.borsh.specs.Encoding.{each}
 use Rattle.borsh.specs.Laws.{length-vec, length-sortedMap, both-left, both-right, both-true}
 use Rattle.metadata.specs.declared.list.TapeMetadata.{TapeMetadata}
 use Rattle.metadata.specs.declared.list.TapeList.{TapeList}
@@ -37,7 +37,7 @@ name-short name e =
 pub fits-name : (before : List ℕ) (t : Tape) → fits before t ≡ true → nameRule (t .name) ≡ true
 unfolding fits
 fits-name before t e =
-    both-left (nameRule (t .name)) (leb (t .start) (t .len)) (both-right (comesBefore before (t .name)) (both (nameRule (t .name)) (leb (t .start) (t .len))) e)
+    both-left (nameRule (t .name)) (leb (t .start) (t .len)) (both-right (comesBefore before (t .name)) ((nameRule (t .name)) && (leb (t .start) (t .len))) e)
 
 pub fits-short : (before : List ℕ) (t : Tape) → fits before t ≡ true → length (t .name) ≤ 24
 fits-short before t e = name-short (t .name) (fits-name before t e)
@@ -63,10 +63,10 @@ good-after : (before : List ℕ) (ts : List TapeMetadata) → storableAfter befo
 unfolding storableAfter goodAfter
 good-after before [] e = refl
 good-after before (t ∷ ts) e =
-    let behind = fits before (meaning t) in
+    let prepend = fits before (meaning t) in
     let rest = storableAfter (meaning t .name) ts in
-    let e′ = both-right (leb (t .letters) 24) (both behind rest) e in
-    both-true behind (goodAfter (meaning t .name) (map meaning ts)) (both-left behind rest e′) (good-after (meaning t .name) ts (both-right behind rest e′))
+    let e′ = both-right (leb (t .letters) 24) (prepend && rest) e in
+    both-true prepend (goodAfter (meaning t .name) (map meaning ts)) (both-left prepend rest e′) (good-after (meaning t .name) ts (both-right prepend rest e′))
 
 module _ (l : TapeList) (e : storable l ≡ true) where
   pub storable-count : l .count ≤ 8
@@ -111,16 +111,16 @@ unfolding storableAfter goodAfter
 storable-after before [] e = refl
 storable-after before (t ∷ ts) e =
     let good = goodAfter (t .name) ts in
-    let behind = both-left (fits before t) good e in
+    let prepend = both-left (fits before t) good e in
     let rest = storable-after (t .name) ts (both-right (fits before t) good e) in
     let same = meaning-stored t in
     let u = meaning (stored t) in
     let s = storableAfter (u .name) (map stored ts) in
     both-true
     (leb (stored t .letters) 24)
-    (both (fits before u) s)
-    (le-leb (stored t .letters) 24 (rw (stored-letters t) (fits-short before t behind)))
-    (both-true (fits before u) s (ap (fits before) same ∙ behind) (ap (λ (x : Tape). storableAfter (x .name) (map stored ts)) same ∙ rest))
+    ((fits before u) && s)
+    (le-leb (stored t .letters) 24 (rw (stored-letters t) (fits-short before t prepend)))
+    (both-true (fits before u) s (ap (fits before) same ∙ prepend) (ap (λ (x : Tape). storableAfter (x .name) (map stored ts)) same ∙ rest))
 
 pub storable-list : (ts : List Tape) → goodList ts ≡ true → storable (listOf ts) ≡ true
 unfolding storable listOf goodList

@@ -1,6 +1,6 @@
 -- A list that was read, taken apart: its count, its tapes one after the other, each tape's fields. Assumes nothing.
 use mathlib.Core.Path.{_≡_, refl, sym, ap, _∙_}
-use mathlib.Core.Bool.{Bool, true, false}
+use mathlib.Core.Bool.{Bool, true, false, cond}
 use mathlib.Core.List.{List, [], _∷_}
 use Prim.Native.Nat.{ℕ, zero, suc}
 use native.Mathlib.Omega.{arith}
@@ -16,7 +16,7 @@ use Rattle.borsh.specs.Taking.{takeNumber, takeVec}
 use Rattle.metadata.specs.declared.decode.TakenTape.{TakenTape}
 use Rattle.metadata.specs.declared.decode.TakenTape.the-variants.{Found, NotFound}
 use Rattle.metadata.specs.Tapes.{Tape, fits, tapeAt}
-use Rattle.metadata.specs.Decoding.{Listing, tapes, unreadable, withStart, withLen, withName, takeTape, pickTape, allowed, nextTape, pickListing, behind, goOn, decodeFrom, counted, decodeList}
+use Rattle.metadata.specs.Decoding.{Listing, tapes, unreadable, withStart, withLen, withName, takeTape, allowed, nextTape, prepend, goOn, decodeFrom, counted, decodeList}
 
 -- the three fields of a tape that was found
 pub record Fields (s : List ℕ) (at place letters len start : ℕ) (c : Cursor) : Type 0 where
@@ -72,14 +72,14 @@ step k before s at ts e = by-tape (takeTape s at) refl
 
     by-rest : (place letters len start : ℕ) (next : Cursor) (r : Listing) → takeTape s at ≡ Found place letters len start next
         → fits before (tapeAt s place letters len start) ≡ true → decodeFrom k (take letters (drop place s)) s (next .at) ≡ r
-        → behind (tapeAt s place letters len start) r ≡ tapes ts → Step k before s at ts
+        → prepend (tapeAt s place letters len start) r ≡ tapes ts → Step k before s at ts
     by-rest place letters len start next (tapes us) q o r f =
         record { place = place; letters = letters; len = len; start = start; next = next; others = us; found = q; ok = o; all = cc; rest = r }
     by-rest place letters len start next unreadable q o r f = never f
 
     by-fits : (place letters len start : ℕ) (next : Cursor) (b : Bool) → takeTape s at ≡ Found place letters len start next
         → fits before (tapeAt s place letters len start) ≡ b
-        → go (pickTape b (Found place letters len start next) NotFound) ≡ tapes ts → Step k before s at ts
+        → go (cond b (Found place letters len start next) NotFound) ≡ tapes ts → Step k before s at ts
     by-fits place letters len start next true q o f =
         by-rest place letters len start next (decodeFrom k (take letters (drop place s)) s (next .at)) q o refl f
     by-fits place letters len start next false q o f = never f
@@ -101,10 +101,10 @@ ended before s at ts e = by (eqb at (length s)) refl
   where
     by : (b : Bool) → eqb at (length s) ≡ b → End s at ts
     by true q =
-        let same : tapes [] ≡ tapes ts = ap (λ (b : Bool). pickListing b (tapes []) unreadable) (sym q) ∙ e in
+        let same : tapes [] ≡ tapes ts = ap (λ (b : Bool). cond b (tapes []) unreadable) (sym q) ∙ e in
         record { none = cc; over = eqb-true at (length s) q }
     by false q =
-        let same : unreadable ≡ tapes ts = ap (λ (b : Bool). pickListing b (tapes []) unreadable) (sym q) ∙ e in
+        let same : unreadable ≡ tapes ts = ap (λ (b : Bool). cond b (tapes []) unreadable) (sym q) ∙ e in
         let z : _≡_ {A = ℕ} 0 1 = cc in absurd (omega arith)
 
 -- the count of a list that was read, and the tapes
@@ -123,7 +123,7 @@ head s ts e = by-count (takeNumber 4 s 0) refl
     never q = let z : _≡_ {A = ℕ} 0 1 = cc in absurd (omega arith)
 
     by-few : (count : ℕ) (next : Cursor) (b : Bool) → takeNumber 4 s 0 ≡ Number count next → leb count 8 ≡ b
-        → pickListing b (decodeFrom count [] s (next .at)) unreadable ≡ tapes ts → Head s ts
+        → cond b (decodeFrom count [] s (next .at)) unreadable ≡ tapes ts → Head s ts
     by-few count next true q o f = record { count = count; next = next; found = q; few = o; rest = f }
     by-few count next false q o f = never f
 

@@ -8,12 +8,11 @@ use borsh::put_u32;
 use borsh::put_u64;
 use borsh::put_vec;
 ghost use mathlib.Core.Path.{_≡_};
-ghost use mathlib.Core.Bool.{true};
+ghost use mathlib.Core.Bool.{true, _&&_};
 ghost use Prim.Native.Nat.{_+_, _≤_};
 ghost use lib.Dec.{leb};
 ghost use lib.ListN.{length};
 ghost use Rattle.octets.specs.Bytes.{put};
-ghost use Rattle.borsh.specs.Encoding.{both};
 ghost use Rattle.borsh.specs.Taking.{cursor};
 ghost use Rattle.metadata.specs.Tapes.{fits, encodeTape, encodeList};
 ghost use Rattle.metadata.specs.Struct.{meaning, tapesOf, storable};
@@ -32,7 +31,7 @@ pub enum Encoded {
 // Whether a tape may follow another in a list that is stored.
 fn fits_behind(before: TapeMetadata, t: TapeMetadata) -> bool
     requires { ⌜ before .letters ≤ 24 ⌝ }
-    ensures { λ r. ⌜ r ≡ both (leb (t .letters) 24) (fits (meaning before .name) (meaning t)) ⌝ }
+    ensures { λ r. ⌜ r ≡ (leb (t .letters) 24 && fits (meaning before .name) (meaning t)) ⌝ }
 {
     let first = before.name;
     let first_end = before.letters;

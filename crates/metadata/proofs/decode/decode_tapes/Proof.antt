@@ -15,7 +15,7 @@ use Rattle.metadata.specs.Tapes.{Tape, tapeAt, Part}
 use Rattle.metadata.specs.Decoding.{Listing, unreadable, nextTape, decodeFrom}
 use Rattle.metadata.specs.Decoding as listing
 use Rattle.metadata.specs.Struct.{stored, blank, listOf, decodedOf}
-use Rattle.metadata.specs.DecodingLaws.{behindAll, behindAll-snoc, behindAll-tapes, behindAll-unreadable, decode-step, decode-stop, decode-end, decode-over, next-inside, next-short, store-next}
+use Rattle.metadata.specs.DecodingLaws.{prependAll, prependAll-snoc, prependAll-tapes, prependAll-unreadable, decode-step, decode-stop, decode-end, decode-over, next-inside, next-short, store-next}
 use Rattle.metadata.proofs.decode.decode_tapes.Statement.{statement}
 use Rattle.metadata.proofs.decode.decode_tapes.Tie as tie
 
@@ -30,10 +30,10 @@ record Read (s : List ℕ) (count first : ℕ) (array : List TapeMetadata) (at b
   within : i ≤ count
   last : Part before end (length s)
   held : array ≡ map stored done ++ replicate (8 - i) blank
-  rest : behindAll done (decodeFrom (count - i) (part s before end) s at) ≡ decodeFrom count [] s first
+  rest : prependAll done (decodeFrom (count - i) (part s before end) s at) ≡ decodeFrom count [] s first
 
 begin : (s : List ℕ) (count first : ℕ) (array : List TapeMetadata) → array ≡ replicate 8 blank → Read s count first array first 0 0 0
-unfolding behindAll
+unfolding prependAll
 begin s count first array e = record {
   done = [];
   size = refl;
@@ -60,9 +60,9 @@ module _ {s : List ℕ} {count first : ℕ} {array : List TapeMetadata} {at befo
         held = ap (λ (n : ℕ). set array i (stored (tapeAt s place n len start))) same
             ∙ ap (λ (a : List TapeMetadata). set a i (stored t)) (r .held)
             ∙ store-next (r .done) t i size (omega arith);
-        rest = ap (λ (n : ℕ). behindAll (r .done ++ (t ∷ [])) (decodeFrom (count - (i + 1)) (take n (drop place s)) s (next .at))) same
-            ∙ behindAll-snoc (r .done) t more
-            ∙ ap (behindAll (r .done)) (sym (decode-step count i (part s before end) s at l e))
+        rest = ap (λ (n : ℕ). prependAll (r .done ++ (t ∷ [])) (decodeFrom (count - (i + 1)) (take n (drop place s)) s (next .at))) same
+            ∙ prependAll-snoc (r .done) t more
+            ∙ ap (prependAll (r .done)) (sym (decode-step count i (part s before end) s at l e))
             ∙ r .rest;
       }
 
@@ -70,22 +70,22 @@ module _ {s : List ℕ} {count first : ℕ} {array : List TapeMetadata} {at befo
   stopped : i < count → nextTape (part s before end) s at ≡ NotFound → decodeFrom count [] s first ≡ unreadable
   stopped l e =
       sym (r .rest)
-      ∙ ap (behindAll (r .done)) (decode-stop count i (part s before end) s at l e)
-      ∙ behindAll-unreadable (r .done)
+      ∙ ap (prependAll (r .done)) (decode-stop count i (part s before end) s at l e)
+      ∙ prependAll-unreadable (r .done)
 
   -- a byte over
   over : count ≤ i → (at ≡ length s → ⊥) → decodeFrom count [] s first ≡ unreadable
   over l d =
       sym (r .rest)
-      ∙ ap (behindAll (r .done)) (decode-over count i (part s before end) s at l d)
-      ∙ behindAll-unreadable (r .done)
+      ∙ ap (prependAll (r .done)) (decode-over count i (part s before end) s at l d)
+      ∙ prependAll-unreadable (r .done)
 
   -- all of them
   whole : count ≤ i → at ≡ length s → decodeFrom count [] s first ≡ listing.tapes (r .done)
   whole l e =
       sym (r .rest)
-      ∙ ap (behindAll (r .done)) (decode-end count i (part s before end) s at l e)
-      ∙ behindAll-tapes (r .done) []
+      ∙ ap (prependAll (r .done)) (decode-end count i (part s before end) s at l e)
+      ∙ prependAll-tapes (r .done) []
       ∙ ap listing.tapes (append-nil (r .done))
 
   list : count ≤ i → _≡_ {A = TapeList} (record { count = count; tapes = array }) (listOf (r .done))

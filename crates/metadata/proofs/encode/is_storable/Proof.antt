@@ -1,6 +1,6 @@
 -- `metadata::encode::is_storable`: what is left of the test, behind the tape before, is the whole test. Assumes nothing.
 use mathlib.Core.Path.{_≡_, refl, sym, _∙_}
-use mathlib.Core.Bool.{true, false}
+use mathlib.Core.Bool.{true, false, _&&_}
 use mathlib.Core.List.{[]}
 use Prim.Native.Nat.{ℕ, _≤_, _-_}
 use native.Mathlib.Omega.{arith}
@@ -8,7 +8,6 @@ use borrow.Author.Needs.{needs}
 use borrow.Author.Tests.{lt-leb, leb-true}
 use lib.Dec.{leb}
 use lib.ListN.{take, drop, getD}
-use Rattle.borsh.specs.Encoding.{both}
 use Rattle.borsh.specs.Laws.{both-left}
 use Rattle.metadata.specs.declared.list.TapeMetadata.{TapeMetadata}
 use Rattle.metadata.specs.declared.list.TapeList.{TapeList}
@@ -71,7 +70,7 @@ loop-again c =
     let long = eight (args .t1 .tapes) (search needs) in
     let t = getD (args .t1 .tapes) (loop .i) none in
     let before = meaning (loop .before) .name in
-    let test : both (leb (t .letters) 24) (fits before (meaning t)) ≡ true = sym (fits-behind .ensures) ∙ if2 .taken in
+    let test : ((leb (t .letters) 24) && (fits before (meaning t))) ≡ true = sym (fits-behind .ensures) ∙ if2 .taken in
     record {
       within = omega arith;
       letters = leb-true (t .letters) 24 (both-left (leb (t .letters) 24) (fits before (meaning t)) test);
@@ -90,7 +89,7 @@ returns-2 c =
     let long = eight (args .t1 .tapes) (search needs) in
     let t = getD (args .t1 .tapes) (loop .i) none in
     let before = meaning (loop .before) .name in
-    let test : both (leb (t .letters) 24) (fits before (meaning t)) ≡ false = sym (fits-behind .ensures) ∙ if2 .left in
+    let test : ((leb (t .letters) 24) && (fits before (meaning t))) ≡ false = sym (fits-behind .ensures) ∙ if2 .left in
     sym
     (storable-few (args .t1) (omega arith)
     ∙ sym (loop .inv .rest)

@@ -1,6 +1,6 @@
 -- `metadata::record::read_record` answers `readRecord`: each way out is that of the first part that is not there. Assumes nothing.
 use mathlib.Core.Path.{_≡_, sym, ap, _∙_}
-use mathlib.Core.Bool.{Bool, true, false}
+use mathlib.Core.Bool.{Bool, true, false, cond}
 use mathlib.Core.List.{List}
 use Prim.Native.Nat.{ℕ, _+_, _-_, _≤_}
 use native.Mathlib.Omega.{arith}
@@ -13,7 +13,7 @@ use Rattle.borsh.specs.declared.TakenBytes.the-variants.{Bytes, ShortBytes}
 use Rattle.borsh.specs.Taking.{takeNumber, takeArray, takeVec}
 use Rattle.borsh.specs.Back.{take-array-was, take-vec-was}
 use Rattle.metadata.specs.declared.record.Reading.the-variants.{Whole, Empty}
-use Rattle.metadata.specs.Record.{hashOf, pickReading, readRecord}
+use Rattle.metadata.specs.Record.{hashOf, readRecord}
 use Rattle.metadata.specs.RecordLaws.{read-no-version, read-no-hash, read-no-epoch, read-no-list, read-all}
 use borrow.Author.Needs.{needs}
 use Rattle.metadata.proofs.record.read_record.Statement.{statement}
@@ -21,7 +21,7 @@ use Rattle.metadata.proofs.record.read_record.Tie as tie
 
 -- all parts were found: the hash decides, and what is compared lies inside
 record Parts (s : List ℕ) (hash epoch list n : ℕ) : Type 0 where
-  all : readRecord s ≡ pickReading (sameBytes (take 32 (drop hash s)) (hashOf epoch (take n (drop list s)))) (Whole epoch n) Empty
+  all : readRecord s ≡ cond (sameBytes (take 32 (drop hash s)) (hashOf epoch (take n (drop list s)))) (Whole epoch n) Empty
   hash-end : hash + 32 ≤ length s
   list-end : list + n ≤ length s
 
@@ -226,7 +226,7 @@ returns-5 c =
     let l = list .given .0 in
     let test : sameBytes (take 32 (drop h (args .s .now))) (hashOf e (take (l .1 .0) (drop (l .0) (args .s .now)))) ≡ true
     = compared (args .s .now) h e (l .0) (l .1 .0) (hash-agrees .result) true (hash-agrees .ensures) (if1 .taken) in
-    sym (p .all ∙ ap (λ (t : Bool). pickReading t (Whole e (l .1 .0)) Empty) test)
+    sym (p .all ∙ ap (λ (t : Bool). cond t (Whole e (l .1 .0)) Empty) test)
 
 returns-6 : tie.Need-returns-6
 returns-6 c =
@@ -242,7 +242,7 @@ returns-6 c =
     let l = list .given .0 in
     let test : sameBytes (take 32 (drop h (args .s .now))) (hashOf e (take (l .1 .0) (drop (l .0) (args .s .now)))) ≡ false
     = compared (args .s .now) h e (l .0) (l .1 .0) (hash-agrees .result) false (hash-agrees .ensures) (if1 .left) in
-    sym (p .all ∙ ap (λ (t : Bool). pickReading t (Whole e (l .1 .0)) Empty) test)
+    sym (p .all ∙ ap (λ (t : Bool). cond t (Whole e (l .1 .0)) Empty) test)
 
 pub read-record-spec : {M : Type 1} → statement M
 read-record-spec =
