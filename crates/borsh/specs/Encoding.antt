@@ -1,6 +1,6 @@
 -- The Borsh specification, for the types that a metadata record is made of. A struct is its fields in the order of their declaration, so it is the
 -- `++` of their encodings and needs no definition. Assumes nothing.
-use mathlib.Core.Bool.{Bool, true, false, _&&_}
+use mathlib.Core.Bool.{Bool, true, _&&_}
 use mathlib.Core.List.{List, [], _∷_, _++_}
 use Prim.Native.Nat.{ℕ}
 use lib.ListN.{length}

@@ -1,6 +1,6 @@
 -- Document 01, "The record": "Left is chosen if its epoch is larger, else right; the chosen record is handed on as the caller's own bytes (none where
 -- it counts as empty). The next write goes to the other file." Assumes nothing.
-use mathlib.Core.Bool.{Bool, true, false, cond}
+use mathlib.Core.Bool.{Bool, cond}
 use mathlib.Core.List.{List, []}
 use Prim.Native.Nat.{ℕ, _+_}
 use lib.Dec.{ltb}

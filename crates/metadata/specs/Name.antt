@@ -1,5 +1,5 @@
 -- Document 01, "What is carried over": names have 1 to 24 bytes from a-z, 0-9, `_`, `-`. Assumes nothing.
-use mathlib.Core.Bool.{Bool, true, false, _&&_, _||_}
+use mathlib.Core.Bool.{Bool, true, _&&_, _||_}
 use mathlib.Core.List.{List, [], _∷_}
 use Prim.Native.Nat.{ℕ}
 use lib.Dec.{leb, eqb}
