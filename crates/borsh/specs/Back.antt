@@ -8,8 +8,9 @@ use native.Mathlib.Nat.{add-zero}
 use native.Mathlib.Omega.{arith}
 use borrow.Author.Tests.{le-leb, lt-leb, leb-true, leb-false}
 use lib.Dec.{leb}
-use lib.ListN.{length, take, drop, length-append, length-drop, take-append-drop}
-use lib.Seq.{drop-append-seam, drop-drop, length-take-le}
+use lib.ListN.{length, take, drop, length-append, take-append-drop}
+use lib.Seq.{drop-append-seam, drop-drop}
+use Rattle.octets.specs.Bytes.{length-part}
 use Rattle.octets.specs.Number.{le, numAt, length-le, le-numAt, numAt-le, numAt-lt, numAt-drop, Bytes as AllBytes}
 use Rattle.borsh.specs.declared.Cursor.{Cursor}
 use Rattle.borsh.specs.declared.TakenNumber.the-variants.{Number, ShortNumber}
@@ -131,7 +132,7 @@ array-at n s at h = record {
   ends = refl;
   fits = h;
   bytes = cut n s at;
-  long = length-take-le n (drop at s) (simp length-drop (omega arith));
+  long = length-part n s at h;
 }
 
 pub take-number-was : (k : ℕ) (s : List ℕ) (at : ℕ) {v : ℕ} {c : Cursor} → AllBytes s → takeNumber k s at ≡ Number v c → TakenNumberAt k s at v (c .at)
@@ -182,13 +183,27 @@ vec-at s at start n next p h a =
       small = rw (a .size) (number .small);
     }
 
-pub take-vec-was : (s : List ℕ) (at : ℕ) {start n : ℕ} {c : Cursor} → AllBytes s → takeVec s at ≡ Bytes start n c → TakenVecAt s at start n (c .at)
-take-vec-was s at {start} {n} {c} p e = by (leb (at + 4) (length s)) refl
+-- a vector that was taken: its length stood there, and its bytes are an array behind it
+record VecParts (s : List ℕ) (at start n next : ℕ) : Type 0 where
+  head : at + 4 ≤ length s
+  body : TakenArrayAt (numAt 4 s at) s (at + 4) start n next
+
+vec-parts : (s : List ℕ) (at : ℕ) {start n : ℕ} {c : Cursor} → takeVec s at ≡ Bytes start n c → VecParts s at start n (c .at)
+vec-parts s at {start} {n} {c} e = by (leb (at + 4) (length s)) refl
   where
-    by : (t : Bool) → leb (at + 4) (length s) ≡ t → TakenVecAt s at start n (c .at)
+    by : (t : Bool) → leb (at + 4) (length s) ≡ t → VecParts s at start n (c .at)
     by true q =
         let h = leb-true (at + 4) (length s) q in
-        vec-at s at start n (c .at) p h (take-array-was (numAt 4 s at) s (at + 4) (sym (take-vec-fits s at h) ∙ e))
+        record { head = h; body = take-array-was (numAt 4 s at) s (at + 4) (sym (take-vec-fits s at h) ∙ e) }
     by false q =
         let same : ShortBytes ≡ Bytes start n c = sym (take-vec-short s at (leb-false (at + 4) (length s) q)) ∙ e in
         let z : _≡_ {A = ℕ} 0 1 = cc in absurd (omega arith)
+
+pub take-vec-was : (s : List ℕ) (at : ℕ) {start n : ℕ} {c : Cursor} → AllBytes s → takeVec s at ≡ Bytes start n c → TakenVecAt s at start n (c .at)
+take-vec-was s at {start} {n} {c} p e = let v = vec-parts s at e in vec-at s at start n (c .at) p (v .head) (v .body)
+
+-- the bytes of a vector lie inside, whatever they are
+pub take-vec-inside : (s : List ℕ) (at : ℕ) {start n : ℕ} {c : Cursor} → takeVec s at ≡ Bytes start n c → start + n ≤ length s
+take-vec-inside s at e =
+    let a = vec-parts s at e .body in
+    omega (arith, a .begins, a .size, a .ends, a .fits)

@@ -1,6 +1,6 @@
 -- Laws of the encodings: how long they are, that they are bytes, that no two values share one, and what the order of keys says. Assumes nothing.
 use mathlib.Core.Path.{_≡_, refl, sym, ap, _∙_}
-use mathlib.Core.Bool.{Bool, true, false, false≢true, _&&_}
+use mathlib.Core.Bool.{Bool, true, _&&_, and-eq-true-iff}
 use mathlib.Core.List.{List, [], _∷_, _++_, append-assoc}
 use Prim.Native.Nat.{ℕ, _+_, _<_, _^_}
 use native.Mathlib.Omega.{arith}
@@ -72,15 +72,13 @@ vec-inj a b r t f g e =
 -- ---- both, and the order of keys
 
 pub both-left : (a b : Bool) → (a && b) ≡ true → a ≡ true
-both-left true b e = refl
-both-left false b e = e
+both-left a b e = and-eq-true-iff a b .0 e .0
 
 pub both-right : (a b : Bool) → (a && b) ≡ true → b ≡ true
-both-right true b e = e
-both-right false b e = absurd (false≢true e)
+both-right a b e = and-eq-true-iff a b .0 e .1
 
 pub both-true : (a b : Bool) → a ≡ true → b ≡ true → (a && b) ≡ true
-both-true a b p q = rw (p, q)
+both-true a b p q = and-eq-true-iff a b .1 (p, q)
 
 module _ {A : Type 0} (key : A → List ℕ) (before : List ℕ) where
   pub ascending-nil : ascending key before [] ≡ true

@@ -1,10 +1,10 @@
 -- A record written run by run: the head that is hashed, the hash, and the four fields. Assumes nothing.
 use mathlib.Core.Path.{_≡_, sym, ap, _∙_}
-use mathlib.Core.List.{List, [], _++_, append-nil}
-use Prim.Native.Nat.{ℕ, _+_, _≤_}
+use mathlib.Core.List.{List, [], _++_}
+use Prim.Native.Nat.{ℕ, _+_}
 use native.Mathlib.Omega.{arith}
-use lib.ListN.{length, replicate, length-append, drop-of-length-le}
-use Rattle.octets.specs.Bytes.{put, put-append, put-front}
+use lib.ListN.{length, replicate, length-append}
+use Rattle.octets.specs.Bytes.{put, put-append, put-whole}
 use Rattle.octets.specs.Number.{putNum, length-le}
 use Rattle.blake2b.specs.declared.digest.Hashed.{Hashed}
 use Rattle.blake2b.specs.Blake2b.{blake2b}
@@ -13,14 +13,6 @@ use Rattle.blake2b.specs.Laws.{length-blake2b}
 use Rattle.borsh.specs.Encoding.{u32, u64, vec}
 use Rattle.metadata.specs.Record.{EPOCH, TAPES, hashOf, encodeRecord}
 use Rattle.metadata.specs.RecordLaws.{length-hash}
-
--- what fills an area is all of it
-put-whole : (s bs : List ℕ) → length bs ≡ length s → put s 0 bs ≡ bs
-put-whole s bs e =
-    let over : length s ≤ length bs = omega arith in
-    put-front s bs (omega arith)
-    ∙ ap (λ (l : List ℕ). bs ++ l) (drop-of-length-le s over)
-    ∙ append-nil bs
 
 -- the head in its array: "epoch", the epoch's bytes, "tapes"
 pub head-runs : (e : ℕ) (a b h : List ℕ) → a ≡ put (replicate 18 0) 0 EPOCH → b ≡ putNum 8 a 5 e → h ≡ put b 13 TAPES → h ≡ EPOCH ++ (u64 e ++ TAPES)

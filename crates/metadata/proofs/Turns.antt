@@ -1,24 +1,24 @@
 -- What the loops over a list's tapes come to, turn by turn: the test whether it may be stored, and its encoding. Assumes nothing.
 use mathlib.Core.Path.{_≡_, refl, sym, ap, _∙_}
-use mathlib.Core.Bool.{Bool, true, false, _&&_}
+use mathlib.Core.Bool.{Bool, true, false, _&&_, and-assoc}
 use mathlib.Core.List.{List, [], _∷_, _++_, map, map-append, append-nil}
 use Prim.Native.Nat.{ℕ, zero, suc, _+_, _-_, _≤_, _<_}
 use native.Mathlib.Numerals.{add-one}
 use native.Mathlib.Omega.{arith}
-use borrow.Author.Tests.{le-leb, leb-true}
+use borrow.Author.Tests.{le-leb}
 use lib.Dec.{leb}
 use lib.ListN.{length, take, drop, getD, length-append, length-take, length-map, drop-of-length-le}
 use lib.Seq.{drop-cons, take-suc, take-add, length-take-le, getD-take}
 use Rattle.octets.specs.Bytes.{put, put-append}
 use Rattle.octets.specs.Number.{length-le}
 use Rattle.borsh.specs.Encoding.{u32, u64, vec, each, sortedMap}
-use Rattle.borsh.specs.Laws.{length-vec, each-append, both-left, both-right}
+use Rattle.borsh.specs.Laws.{length-vec, each-append}
 use Rattle.metadata.proofs.list.TapeMetadata.{the-type}
 use Rattle.metadata.specs.declared.list.TapeMetadata.{TapeMetadata}
 use Rattle.metadata.specs.declared.list.TapeList.{TapeList}
 use Rattle.metadata.specs.Tapes.{Tape, encodeTape, encodeList, fits}
 use Rattle.metadata.specs.Struct.{meaning, tapesOf, storableAfter, storable}
-use Rattle.metadata.specs.StructLaws.{storable-count, storable-tapes}
+use Rattle.metadata.specs.StructLaws.{storable-count, storable-tapes, storable-letters, storable-others}
 
 -- what is read past the end of an array of tapes
 abbrev pub none : TapeMetadata
@@ -29,10 +29,6 @@ pub eight : (ts : List TapeMetadata) → length (map (the-type .to) ts) ≡ 8 �
 eight ts e = sym (length-map ts (the-type .to)) ∙ e
 
 -- ---- the test
-
-both-assoc : (a b c : Bool) → (a && (b && c)) ≡ ((a && b) && c)
-both-assoc true b c = refl
-both-assoc false b c = refl
 
 pub storable-few : (l : TapeList) → l .count ≤ 8 → storable l ≡ storableAfter [] (take (l .count) (l .tapes))
 unfolding storable
@@ -45,7 +41,7 @@ module _ (ts : List TapeMetadata) (n i : ℕ) (before : List ℕ) where
   storable-end h = rw (drop-of-length-le (take n ts) {i = i} (rw length-take (omega arith)))
 
   module _ (d : TapeMetadata) (low : i < n) (inside : i < length ts) where
-    turn : storableAfter before (drop i (take n ts)) ≡ (((leb (getD ts i d .letters) 24) && (fits before (meaning (getD ts i d)))) && (storableAfter (meaning (getD ts i d) .name) (drop (i + 1) (take n ts))))
+    turn : storableAfter before (drop i (take n ts)) ≡ (leb (getD ts i d .letters) 24 && fits before (meaning (getD ts i d)) && storableAfter (meaning (getD ts i d) .name) (drop (i + 1) (take n ts)))
     unfolding storableAfter
     turn =
         let t = getD ts i d in
@@ -53,29 +49,19 @@ module _ (ts : List TapeMetadata) (n i : ℕ) (before : List ℕ) where
         let cut : drop i (take n ts) ≡ t ∷ drop (i + 1) (take n ts)
         = drop-cons (take n ts) i d some ∙ rw (add-one, getD-take n ts i d low) in
         ap (storableAfter before) cut
-        ∙ both-assoc (leb (t .letters) 24) (fits before (meaning t)) (storableAfter (meaning t .name) (drop (i + 1) (take n ts)))
+        ∙ sym (and-assoc (leb (t .letters) 24) (fits before (meaning t)) (storableAfter (meaning t .name) (drop (i + 1) (take n ts))))
 
-    pub storable-go : ((leb (getD ts i d .letters) 24) && (fits before (meaning (getD ts i d)))) ≡ true → storableAfter before (drop i (take n ts)) ≡ storableAfter (meaning (getD ts i d) .name) (drop (i + 1) (take n ts))
-    storable-go e = turn ∙ ap (λ (b : Bool). (b && (storableAfter (meaning (getD ts i d) .name) (drop (i + 1) (take n ts))))) e
+    pub storable-go : (leb (getD ts i d .letters) 24 && fits before (meaning (getD ts i d))) ≡ true → storableAfter before (drop i (take n ts)) ≡ storableAfter (meaning (getD ts i d) .name) (drop (i + 1) (take n ts))
+    storable-go e = turn ∙ ap (λ (b : Bool). b && storableAfter (meaning (getD ts i d) .name) (drop (i + 1) (take n ts))) e
 
-    pub storable-stop : ((leb (getD ts i d .letters) 24) && (fits before (meaning (getD ts i d)))) ≡ false → storableAfter before (drop i (take n ts)) ≡ false
-    storable-stop e = turn ∙ ap (λ (b : Bool). (b && (storableAfter (meaning (getD ts i d) .name) (drop (i + 1) (take n ts))))) e
+    pub storable-stop : (leb (getD ts i d .letters) 24 && fits before (meaning (getD ts i d))) ≡ false → storableAfter before (drop i (take n ts)) ≡ false
+    storable-stop e = turn ∙ ap (λ (b : Bool). b && storableAfter (meaning (getD ts i d) .name) (drop (i + 1) (take n ts))) e
 
 -- each tape of a list that may be stored has its name in its array
 letters-after : (ts : List TapeMetadata) (i : ℕ) (before : List ℕ) (d : TapeMetadata) → storableAfter before ts ≡ true → i < length ts → getD ts i d .letters ≤ 24
-unfolding storableAfter
 letters-after [] i before d e h = absurd (omega arith)
-letters-after (t ∷ ts) zero before d e h =
-    leb-true (t .letters) 24 (both-left (leb (t .letters) 24) ((fits before (meaning t)) && (storableAfter (meaning t .name) ts)) e)
-letters-after (t ∷ ts) (suc i) before d e h =
-    let rest = storableAfter (meaning t .name) ts in
-    letters-after
-    ts
-    i
-    (meaning t .name)
-    d
-    (both-right (fits before (meaning t)) rest (both-right (leb (t .letters) 24) ((fits before (meaning t)) && rest) e))
-    (omega arith)
+letters-after (t ∷ ts) zero before d e h = storable-letters before t ts e
+letters-after (t ∷ ts) (suc i) before d e h = letters-after ts i (meaning t .name) d (storable-others before t ts e) (omega arith)
 
 -- ---- the encoding
 
@@ -88,7 +74,7 @@ module _ (l : TapeList) where
   unfolding firsts each
   firsts-none = refl
 
-  pub firsts-more : (i : ℕ) (d : TapeMetadata) → i < length (l .tapes) → firsts l (i + 1) ≡ firsts l i ++ encodeTape (meaning (getD (l .tapes) i d))
+  firsts-more : (i : ℕ) (d : TapeMetadata) → i < length (l .tapes) → firsts l (i + 1) ≡ firsts l i ++ encodeTape (meaning (getD (l .tapes) i d))
   unfolding firsts each
   firsts-more i d h =
       let ts = l .tapes in
@@ -97,7 +83,7 @@ module _ (l : TapeList) where
       (each-append encodeTape (map meaning (take i ts)) (meaning t ∷ [])
       ∙ ap (λ (b : List ℕ). each encodeTape (map meaning (take i ts)) ++ b) (append-nil (encodeTape (meaning t))))
 
-  pub firsts-all : l .count ≤ length (l .tapes) → encodeList (tapesOf l) ≡ u32 (l .count) ++ firsts l (l .count)
+  firsts-all : l .count ≤ length (l .tapes) → encodeList (tapesOf l) ≡ u32 (l .count) ++ firsts l (l .count)
   unfolding firsts encodeList sortedMap tapesOf
   firsts-all h =
       let long : length (map meaning (take (l .count) (l .tapes))) ≡ l .count

@@ -3,10 +3,10 @@ pub mod NameLaws
 pub mod Tapes
 pub mod Decoding
 pub mod Struct
-pub mod DecodingLaws
 pub mod Encoding
-pub mod StructLaws
 pub mod Rules
+pub mod StructLaws
+pub mod DecodingLaws
 pub mod Taken
 pub mod RoundTrip
 pub mod Encodable

@@ -1,15 +1,16 @@
--- Laws of the rule for names: the ways out of the test of one byte, the turns of the loop over them, and how long a name is. Assumes nothing.
-use mathlib.Core.Path.{_≡_, refl}
+-- Laws of the rule for names: the ways out of a byte's test, the turns of the loop over them, and that a name is at most 24 bytes. Assumes nothing.
+use mathlib.Core.Path.{_≡_, refl, sym, _∙_}
 use mathlib.Core.Logic.{_≢_}
-use mathlib.Core.Bool.{Bool, true, false}
-use mathlib.Core.List.{List}
-use Prim.Native.Nat.{ℕ, _+_, _≤_, _<_}
+use mathlib.Core.Bool.{Bool, true, false, false≢true}
+use mathlib.Core.List.{List, [], _∷_}
+use Prim.Native.Nat.{ℕ, zero, suc, _+_, _≤_, _<_}
 use native.Mathlib.Numerals.{add-one}
 use native.Mathlib.Omega.{arith}
-use borrow.Author.Tests.{le-leb, lt-leb, leb-true, ne-eqb}
+use borrow.Author.Tests.{le-leb, lt-leb, leb-true, leb-false, ne-eqb}
 use lib.Dec.{leb}
 use lib.ListN.{length, getD, drop, drop-of-length-le}
 use lib.Seq.{drop-cons}
+use Rattle.octets.specs.Number.{Bytes}
 use Rattle.borsh.specs.Laws.{both-left, both-right}
 use Rattle.metadata.specs.Name.{between, nameByte, nameBytes, nameRule}
 
@@ -43,6 +44,16 @@ module _ (b : ℕ) where
   unfolding nameByte
   byte-other l d u h = rw (outside 97 122 b l, outside 48 57 b d, ne-eqb b 95 u, ne-eqb b 45 h)
 
+  -- a byte of a name is at most 122
+  byte-small : nameByte b ≡ true → b < 256
+  byte-small e = by (leb b 255) refl
+    where
+      by : (t : Bool) → leb b 255 ≡ t → b < 256
+      by true q = let h = leb-true b 255 q in omega arith
+      by false q =
+          let h = leb-false b 255 q in
+          absurd (false≢true (sym (byte-other (λ l. omega arith) (λ l. omega arith) (λ i. omega arith) (λ i. omega arith)) ∙ e))
+
 -- ---- the bytes of a name, from one on
 
 module _ (s : List ℕ) (i : ℕ) where
@@ -57,6 +68,12 @@ module _ (s : List ℕ) (i : ℕ) where
   pub bytes-end : length s ≤ i → nameBytes (drop i s) ≡ true
   unfolding nameBytes
   bytes-end l = rw (drop-of-length-le s l)
+
+bytes-all : (bs : List ℕ) → nameBytes bs ≡ true → Bytes bs
+unfolding nameBytes
+bytes-all [] e i = omega arith
+bytes-all (b ∷ bs) e zero = byte-small b (both-left (nameByte b) (nameBytes bs) e)
+bytes-all (b ∷ bs) e (suc i) = bytes-all bs (both-right (nameByte b) (nameBytes bs) e) i
 
 -- ---- the rule
 
@@ -73,13 +90,14 @@ module _ (name : List ℕ) where
   unfolding nameRule
   rule-bytes l h = rw (le-leb 1 (length name) l, le-leb (length name) 24 h)
 
-  -- a name has a byte, and at most 24
-  sized : nameRule name ≡ true → between 1 24 (length name) ≡ true
-  unfolding nameRule
-  sized e = both-left (between 1 24 (length name)) (nameBytes name) e
-
-  pub rule-some : nameRule name ≡ true → 1 ≤ length name
-  rule-some e = leb-true 1 (length name) (both-left (leb 1 (length name)) (leb (length name) 24) (sized e))
-
+  -- a name has at most 24 bytes
   pub rule-fits : nameRule name ≡ true → length name ≤ 24
-  rule-fits e = leb-true (length name) 24 (both-right (leb 1 (length name)) (leb (length name) 24) (sized e))
+  unfolding nameRule
+  rule-fits e =
+      let n = length name in
+      leb-true n 24 (both-right (leb 1 n) (leb n 24) (both-left (between 1 24 n) (nameBytes name) e))
+
+  -- and they are bytes
+  pub bytes-name : nameRule name ≡ true → Bytes name
+  unfolding nameRule
+  bytes-name e = bytes-all name (both-right (between 1 24 (length name)) (nameBytes name) e)

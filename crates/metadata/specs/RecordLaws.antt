@@ -3,14 +3,14 @@
 use mathlib.Core.Path.{_≡_, refl, sym, ap, _∙_}
 use mathlib.Core.Bool.{Bool, true, false, cond}
 use mathlib.Core.List.{List, [], _++_, append-assoc}
-use Prim.Native.Nat.{ℕ, zero, suc, _+_, _≤_, _<_, _^_}
+use Prim.Native.Nat.{ℕ, _+_, _≤_, _<_, _^_}
 use native.Mathlib.Omega.{arith}
 use borrow.Author.Tests.{lt-ltb, le-ltb, leb-true, leb-false}
 use lib.Dec.{leb}
 use lib.ListN.{length, take, drop, length-append}
-use lib.Seq.{drop-at, take-at, drop-drop, take-append-seam, take-add, getD-take, length-take-le}
-use Rattle.octets.specs.Bytes.{put, put-front}
-use Rattle.octets.specs.Number.{le, numAt, length-le, numAt-le, numAt-drop, Bytes as AllBytes}
+use lib.Seq.{drop-at, take-at, drop-drop, take-append-seam, length-take-le}
+use Rattle.octets.specs.Bytes.{put, put-front, drop-take}
+use Rattle.octets.specs.Number.{le, numAt, length-le, numAt-le, numAt-drop, numAt-take, Bytes as AllBytes}
 use Rattle.octets.specs.Compare.{sameBytes, same-refl, same-true}
 use Rattle.blake2b.specs.Laws.{length-blake2b}
 use Rattle.borsh.specs.declared.Cursor.{Cursor}
@@ -238,16 +238,6 @@ read-was s {e} {n} p whole =
     }
 
 -- ---- what is handed on
-
--- a number in the front part of an area
-numAt-take : (k : ℕ) (s : List ℕ) (at m : ℕ) → at + k ≤ m → numAt k (take m s) at ≡ numAt k s at
-unfolding numAt
-numAt-take zero s at m h = refl
-numAt-take (suc k) s at m h = rw (getD-take m s at 0 (omega arith), numAt-take k s (at + 1) m (omega arith))
-
--- the front part without its own front
-drop-take : (m n : ℕ) (s : List ℕ) → m ≤ length s → drop m (take (m + n) s) ≡ take n (drop m s)
-drop-take m n s h = ap (drop m) (take-add m n s) ∙ drop-at (take m s) (take n (drop m s)) m (length-take-le m s h)
 
 module _ (r : List ℕ) where
   -- fewer than 48 bytes are no record: epoch 0

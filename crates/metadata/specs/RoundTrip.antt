@@ -1,12 +1,11 @@
 -- The tape list written and read: what was written is read back, and what was read is written as it stood. Assumes nothing.
 use Prim.{Unit, tt}
 use mathlib.Core.Path.{_≡_, refl, sym, ap, _∙_, subst}
-use mathlib.Core.Bool.{Bool, true, cond}
+use mathlib.Core.Bool.{true}
 use mathlib.Core.List.{List, [], _∷_, _++_, append-assoc}
 use Prim.Native.Nat.{ℕ, zero, suc, _+_, _≤_, _<_, _^_}
 use native.Mathlib.Omega.{arith}
-use borrow.Author.Tests.{le-leb, eq-eqb}
-use lib.Dec.{leb}
+use borrow.Author.Tests.{eq-eqb}
 use lib.ListN.{length, take, drop, length-append, length-drop, take-append-drop}
 use lib.Seq.{drop-at, take-at, drop-drop, drop-length, length-take-le}
 use Rattle.octets.specs.Number.{le, length-le, Bytes as AllBytes}
@@ -15,13 +14,12 @@ use Rattle.borsh.specs.declared.TakenNumber.the-variants.{Number}
 use Rattle.borsh.specs.declared.TakenBytes.the-variants.{Bytes}
 use Rattle.borsh.specs.Encoding.{vec, each, sortedMap}
 use Rattle.borsh.specs.Taking.{cursor, takeNumber, takeVec}
-use Rattle.borsh.specs.Laws.{both-true}
 use Rattle.borsh.specs.Back.{take-number-back, take-vec-back, take-number-was, take-vec-was}
-use Rattle.metadata.specs.declared.decode.TakenTape.{TakenTape}
-use Rattle.metadata.specs.declared.decode.TakenTape.the-variants.{Found, NotFound}
+use Rattle.metadata.specs.declared.decode.TakenTape.the-variants.{Found}
 use Rattle.metadata.specs.Tapes.{Tape, encodeTape, encodeList, fits, goodAfter, goodList, tapeAt}
-use Rattle.metadata.specs.Decoding.{tapes, unreadable, withStart, withLen, withName, takeTape, allowed, nextTape, prepend, goOn, decodeFrom, counted, decodeList}
-use Rattle.metadata.specs.Rules.{tape, tape-fields, fits-true, good-first, good-others, good-few, good-tapes}
+use Rattle.metadata.specs.Decoding.{tapes, takeTape, prepend, decodeFrom, decodeList}
+use Rattle.metadata.specs.DecodingLaws.{tape-found, next-found, decode-more, list-counted}
+use Rattle.metadata.specs.Rules.{tape, tape-fields, fits-true, good-first, good-others, good-cons, good-few, good-tapes, good-list}
 use Rattle.metadata.specs.Taken.{fields, step, ended, head}
 
 -- each length is one that a u64 holds; a start is then one too, since it is not above its length
@@ -75,7 +73,7 @@ record Read (s : List ℕ) (at : ℕ) (t : Tape) (rest : List ℕ) : Type 0 wher
   next : Stands s (end at t) rest
 
 read-tape : (s : List ℕ) (at : ℕ) (t : Tape) (rest : List ℕ) → length (t .name) < 256 ^ 4 → t .len < 256 ^ 8 → t .start < 256 ^ 8 → Stands s at (encodeTape t ++ rest) → Read s at t rest
-unfolding takeTape vec
+unfolding vec
 read-tape s at t rest short len start here =
     let second = le 8 (t .start) ++ rest in
     let first = le 8 (t .len) ++ second in
@@ -87,27 +85,23 @@ read-tape s at t rest short len start here =
     let one : Stands s (at + 4 + n) first = stands-behind s (at + 4) (t .name) first n refl letters in
     let two : Stands s (at + 4 + n + 8) second = stands-behind s (at + 4 + n) (le 8 (t .len)) second 8 (length-le 8 (t .len)) one in
     record {
-      found = ap (withName s) (vec-stands s at (t .name) first short all)
-          ∙ ap (withLen s (at + 4) n) (number-stands 8 s (at + 4 + n) (t .len) second len one)
-          ∙ ap (withStart (at + 4) n (t .len)) (number-stands 8 s (at + 4 + n + 8) (t .start) rest start two);
+      found = tape-found s at
+          (vec-stands s at (t .name) first short all)
+          (number-stands 8 s (at + 4 + n) (t .len) second len one)
+          (number-stands 8 s (at + 4 + n + 8) (t .start) rest start two);
       name = ap (take n) (letters .bytes) ∙ take-at (t .name) first n refl;
       next = stands-behind s (at + 4 + n + 8) (le 8 (t .start)) rest 8 (length-le 8 (t .start)) two;
     }
 
 -- a tape that may stand behind a name, and the tapes behind it
-decode-step : (k : ℕ) (before s : List ℕ) (at : ℕ) (t : Tape) (rest : List ℕ) → fits before t ≡ true → Read s at t rest
+read-step : (k : ℕ) (before s : List ℕ) (at : ℕ) (t : Tape) (rest : List ℕ) → fits before t ≡ true → Read s at t rest
     → decodeFrom (suc k) before s at ≡ prepend t (decodeFrom k (t .name) s (end at t))
-unfolding decodeFrom nextTape
-decode-step k before s at t rest ok r =
+read-step k before s at t rest ok r =
     let n = length (t .name) in
     let same : tapeAt s (at + 4) n (t .len) (t .start) ≡ t
     = ap (λ (l : List ℕ). tape l (t .len) (t .start)) (r .name) in
-    let found = Found (at + 4) n (t .len) (t .start) (cursor (end at t)) in
-    let next : allowed before s (takeTape s at) ≡ found
-    = ap (allowed before s) (r .found) ∙ ap (λ (u : Tape). cond (fits before u) found NotFound) same ∙ ap (λ (b : Bool). cond b found NotFound) ok in
-    ap (λ (f : TakenTape). goOn s f (λ name place. decodeFrom k name s place)) next
-    ∙ ap (λ (u : Tape). prepend u (decodeFrom k (take n (drop (at + 4) s)) s (end at t))) same
-    ∙ ap (λ (l : List ℕ). prepend t (decodeFrom k l s (end at t))) (r .name)
+    decode-more k before s at (next-found before s at (r .found) (ap (fits before) same ∙ ok))
+    ∙ ap (λ (u : Tape). prepend u (decodeFrom k (u .name) s (end at t))) same
 
 -- the law that goes through an induction: good tapes that stand from a place on up to the end
 decode-stands : (ts : List Tape) (before s : List ℕ) (at : ℕ) → goodAfter before ts ≡ true → Sizes ts → Stands s at (each encodeTape ts) → decodeFrom (length ts) before s at ≡ tapes ts
@@ -120,18 +114,17 @@ decode-stands (t ∷ ts) before s at good sizes here =
     let f = fits-true before t ok in
     let len : t .len < 2 ^ 64 = sizes .0 in
     let r = read-tape s at t (each encodeTape ts) (omega arith) (omega arith) (omega arith) here in
-    decode-step (length ts) before s at t (each encodeTape ts) ok r
+    read-step (length ts) before s at t (each encodeTape ts) ok r
     ∙ ap (prepend t) (decode-stands ts (t .name) s (end at t) (good-others before t ts good) (sizes .1) (r .next))
 
 -- a good list is read back as it was written
 pub decode-encode : (ts : List Tape) → goodList ts ≡ true → Sizes ts → decodeList (encodeList ts) ≡ tapes ts
-unfolding decodeList encodeList sortedMap
+unfolding encodeList sortedMap
 decode-encode ts good sizes =
     let s = le 4 (length ts) ++ each encodeTape ts in
     let few : length ts ≤ 8 = good-few ts good in
     let here : Stands s 0 s = record { inside = omega arith; bytes = refl } in
-    ap (counted s) (number-stands 4 s 0 (length ts) (each encodeTape ts) (omega arith) here)
-    ∙ ap (λ (b : Bool). cond b (decodeFrom (length ts) [] s 4) unreadable) (le-leb (length ts) 8 few)
+    list-counted s (number-stands 4 s 0 (length ts) (each encodeTape ts) (omega arith) here) few
     ∙ decode-stands ts [] s 4 (good-tapes ts good) sizes
     (stands-behind s 0 (le 4 (length ts)) (each encodeTape ts) 4 (length-le 4 (length ts)) here)
 
@@ -150,15 +143,14 @@ good-were (suc k) before s at ts e =
     let t = tapeAt s (one .place) (one .letters) (one .len) (one .start) in
     let more = good-were k (t .name) s (one .next .at) (one .others) (one .rest) in
     rw (one .all)
-    (record { count = ap suc (more .count); good = both-true (fits before t) (goodAfter (t .name) (one .others)) (one .ok) (more .good) })
+    (record { count = ap suc (more .count); good = good-cons before t (one .others) (one .ok) (more .good) })
 
 -- a list that was read is good
 pub decode-good : (s : List ℕ) (ts : List Tape) → decodeList s ≡ tapes ts → goodList ts ≡ true
-unfolding goodList
 decode-good s ts e =
     let h = head s ts e in
     let g = good-were (h .count) [] s (h .next .at) ts (h .rest) in
-    both-true (leb (length ts) 8) (goodAfter [] ts) (rw (g .count) (h .few)) (g .good)
+    good-list ts (rw (g .count) (h .few)) (g .good)
 
 -- ---- what is read was written so
 
@@ -170,7 +162,7 @@ record TakenTapeAt (s : List ℕ) (at : ℕ) (t : Tape) (next : ℕ) : Type 0 wh
 take-tape-was : (s : List ℕ) (at place letters len start : ℕ) (c : Cursor) → AllBytes s → takeTape s at ≡ Found place letters len start c
     → TakenTapeAt s at (tapeAt s place letters len start) (c .at)
 take-tape-was s at place letters len start c p e =
-    let f = fields s at place letters len start c e in
+    let f = fields s at e in
     let name = take-vec-was s at p (f .name) in
     let size = take-number-was 8 s (f .middle .at) p (f .size) in
     let first = take-number-was 8 s (f .last .at) p (f .first) in

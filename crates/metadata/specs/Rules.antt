@@ -1,17 +1,18 @@
--- What the rules of a list say, and what it is written as: the fields one after the other, bytes only, sorted by name. Assumes nothing.
-use mathlib.Core.Path.{_≡_, refl, sym, _∙_}
-use mathlib.Core.Bool.{Bool, true, false, false≢true, _&&_}
+-- Which tapes may follow which, what a good list is, and that it is sorted by name and written as bytes. Assumes nothing.
+use mathlib.Core.Path.{_≡_}
+use mathlib.Core.Bool.{true, false, _&&_}
 use mathlib.Core.List.{List, [], _∷_, _++_, append-assoc}
-use Prim.Native.Nat.{ℕ, zero, suc, _≤_, _<_}
+use Prim.Native.Nat.{ℕ, _≤_}
 use native.Mathlib.Omega.{arith}
-use borrow.Author.Tests.{le-leb, lt-leb, leb-true, leb-false, ne-eqb}
+use borrow.Author.Tests.{le-leb, leb-true}
 use lib.Dec.{leb}
 use lib.ListN.{length}
 use Rattle.octets.specs.Number.{le, Bytes, bytes-le, bytes-append}
 use Rattle.octets.specs.Compare.{comesBefore}
 use Rattle.borsh.specs.Encoding.{vec, each, sortedMap, ascending}
-use Rattle.borsh.specs.Laws.{bytes-vec, both-left, both-right, ascending-nil, ascending-cons}
-use Rattle.metadata.specs.Name.{between, nameByte, nameBytes, nameRule}
+use Rattle.borsh.specs.Laws.{bytes-vec, both-left, both-right, both-true, ascending-nil, ascending-cons}
+use Rattle.metadata.specs.Name.{nameRule}
+use Rattle.metadata.specs.NameLaws.{rule-fits, bytes-name}
 use Rattle.metadata.specs.Tapes.{Tape, encodeTape, encodeList, fits, goodAfter, goodList}
 
 -- a tape of its parts
@@ -23,52 +24,45 @@ pub tape-fields : (t : Tape) (rest : List ℕ) → encodeTape t ++ rest ≡ vec 
 unfolding encodeTape
 tape-fields t rest = rw (append-assoc, append-assoc)
 
--- ---- what the tests say
+-- ---- a tape that may stand behind a name
 
--- what may stand in a name is a byte: at most 122
-small-byte : (b : ℕ) → nameByte b ≡ true → b < 256
-unfolding nameByte
-small-byte b e = by (leb b 255) refl
-  where
-    by : (t : Bool) → leb b 255 ≡ t → b < 256
-    by true q = let h = leb-true b 255 q in omega arith
-    by false q =
-        let h = leb-false b 255 q in
-        let letter : ((leb 97 b) && (leb b 122)) ≡ false = rw (le-leb 97 b (omega arith), lt-leb b 122 (omega arith)) in
-        let digit : ((leb 48 b) && (leb b 57)) ≡ false = rw (le-leb 48 b (omega arith), lt-leb b 57 (omega arith)) in
-        let no : nameByte b ≡ false = rw (letter, digit, ne-eqb b 95 (λ i. omega arith), ne-eqb b 45 (λ i. omega arith)) in
-        absurd (false≢true (sym no ∙ e))
-
-bytes-name : (bs : List ℕ) → nameBytes bs ≡ true → Bytes bs
-unfolding nameBytes
-bytes-name [] e i = omega arith
-bytes-name (b ∷ bs) e zero = small-byte b (both-left (nameByte b) (nameBytes bs) e)
-bytes-name (b ∷ bs) e (suc i) = bytes-name bs (both-right (nameByte b) (nameBytes bs) e) i
-
--- a tape that may stand behind a name
 pub record Fits (before : List ℕ) (t : Tape) : Type 0 where
   pub order : comesBefore before (t .name) ≡ true
   pub short : length (t .name) ≤ 24
   pub bytes : Bytes (t .name)
   pub inside : t .start ≤ t .len
 
--- the test's meaning
-pub fits-true : (before : List ℕ) (t : Tape) → fits before t ≡ true → Fits before t
-unfolding fits nameRule
-fits-true before t e =
-    let n = length (t .name) in
-    let long = between 1 24 n in
-    let letters = nameBytes (t .name) in
-    let inside = leb (t .start) (t .len) in
-    let order = comesBefore before (t .name) in
-    let others : ((long && letters) && inside) ≡ true = both-right order ((long && letters) && inside) e in
-    let rule : (long && letters) ≡ true = both-left (long && letters) inside others in
-    record {
-      order = both-left order ((long && letters) && inside) e;
-      short = leb-true n 24 (both-right (leb 1 n) (leb n 24) (both-left long letters rule));
-      bytes = bytes-name (t .name) (both-right long letters rule);
-      inside = leb-true (t .start) (t .len) (both-right (long && letters) inside others);
-    }
+module _ (before : List ℕ) (t : Tape) where
+  -- the test's meaning
+  pub fits-true : fits before t ≡ true → Fits before t
+  unfolding fits
+  fits-true e =
+      let order = comesBefore before (t .name) in
+      let rule = nameRule (t .name) in
+      let inside = leb (t .start) (t .len) in
+      let others : (rule && inside) ≡ true = both-right order (rule && inside) e in
+      let named : rule ≡ true = both-left rule inside others in
+      record {
+        order = both-left order (rule && inside) e;
+        short = rule-fits (t .name) named;
+        bytes = bytes-name (t .name) named;
+        inside = leb-true (t .start) (t .len) (both-right rule inside others);
+      }
+
+  -- the ways out of the test
+  pub fits-not-after : comesBefore before (t .name) ≡ false → fits before t ≡ false
+  unfolding fits
+  fits-not-after e = rw e
+
+  pub fits-no-name : comesBefore before (t .name) ≡ true → nameRule (t .name) ≡ false → fits before t ≡ false
+  unfolding fits
+  fits-no-name e f = rw (e, f)
+
+  pub fits-numbers : comesBefore before (t .name) ≡ true → nameRule (t .name) ≡ true → fits before t ≡ leb (t .start) (t .len)
+  unfolding fits
+  fits-numbers e f = rw (e, f)
+
+-- ---- good lists
 
 module _ (before : List ℕ) (t : Tape) (ts : List Tape) where
   -- the first of good tapes, and the others
@@ -80,6 +74,10 @@ module _ (before : List ℕ) (t : Tape) (ts : List Tape) where
   unfolding goodAfter
   good-others = both-right (fits before t) (goodAfter (t .name) ts)
 
+  pub good-cons : fits before t ≡ true → goodAfter (t .name) ts ≡ true → goodAfter before (t ∷ ts) ≡ true
+  unfolding goodAfter
+  good-cons = both-true (fits before t) (goodAfter (t .name) ts)
+
 module _ (ts : List Tape) (good : goodList ts ≡ true) where
   -- a good list has at most eight tapes, and they are good
   pub good-few : length ts ≤ 8
@@ -89,6 +87,11 @@ module _ (ts : List Tape) (good : goodList ts ≡ true) where
   pub good-tapes : goodAfter [] ts ≡ true
   unfolding goodList
   good-tapes = both-right (leb (length ts) 8) (goodAfter [] ts) good
+
+-- and such a list is good
+pub good-list : (ts : List Tape) → length ts ≤ 8 → goodAfter [] ts ≡ true → goodList ts ≡ true
+unfolding goodList
+good-list ts few = both-true (leb (length ts) 8) (goodAfter [] ts) (le-leb (length ts) 8 few)
 
 -- ---- sorted
 

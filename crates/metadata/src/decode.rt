@@ -185,7 +185,7 @@ pub fn decode_list(s: &[u8]) -> Decoded
 {
     match take_u32(s, Cursor { at: 0 }) {
         TakenNumber::Number(count, c) => {
-            if 8 < count {
+            if (TapeList::MOST_NAMES as u64) < count {
                 return Decoded::unreadable();
             }
             decode_tapes(s, count as usize, c.at)

@@ -37,7 +37,7 @@ fn fits_behind(before: TapeMetadata, t: TapeMetadata) -> bool
     let first_end = before.letters;
     let name = t.name;
     let end = t.letters;
-    if 24 < end {
+    if TapeMetadata::MOST_LETTERS < end {
         return false;
     }
     if octets::comes_before(&first[..first_end], &name[..end]) {
@@ -52,7 +52,7 @@ fn fits_behind(before: TapeMetadata, t: TapeMetadata) -> bool
 pub fn is_storable(list: TapeList) -> bool
     ensures { λ r. ⌜ r ≡ storable list ⌝ }
 {
-    if 8 < list.count {
+    if TapeList::MOST_NAMES < list.count {
         return false;
     }
     let mut before = TapeMetadata::blank();

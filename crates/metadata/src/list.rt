@@ -3,19 +3,21 @@ ghost use mathlib.Core.Path.{_≡_};
 ghost use mathlib.Core.List.{[]};
 ghost use Rattle.metadata.specs.Struct.{blank, listOf};
 
-// One tape of the list.
+// One tape of the list. What stands in `name` behind the letters is not looked at; this crate makes
+// it zeros.
 pub struct TapeMetadata {
-    // How many bytes of `name` are the name; zeros stand behind them.
+    // How many bytes of `name` are the name.
     pub letters: usize,
-    pub name: [u8; 24],
+    pub name: [u8; TapeMetadata::MOST_LETTERS],
     pub len: u64,
     pub start: u64,
 }
 
-// At most eight tapes, by name in byte order; blank ones stand behind the first `count`.
+// The first `count` of the tapes, by name in byte order. What stands behind them is not looked at;
+// this crate makes it blank. A list that breaks the rule is `NotStorable`.
 pub struct TapeList {
     pub count: usize,
-    pub tapes: [TapeMetadata; 8],
+    pub tapes: [TapeMetadata; TapeList::MOST_NAMES],
 }
 
 impl TapeMetadata {

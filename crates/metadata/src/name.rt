@@ -1,4 +1,5 @@
 // The rule for names: 1 to 24 bytes from a-z, 0-9, `_` and `-`.
+use crate::list::TapeMetadata;
 ghost use mathlib.Core.Path.{_≡_};
 ghost use Rattle.metadata.specs.Name.{nameByte, nameRule};
 
@@ -19,7 +20,7 @@ pub fn is_name(s: &[u8]) -> bool
     if s.len() < 1 {
         return false;
     }
-    if 24 < s.len() {
+    if TapeMetadata::MOST_LETTERS < s.len() {
         return false;
     }
     let mut i = 0;

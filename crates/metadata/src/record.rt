@@ -97,7 +97,7 @@ pub fn encode_record(out: &mut [u8], epoch: u64, list: TapeList) -> Encoded
         if out.len() < 48 + n {
             return Encoded::NoRoom;
         }
-        let mut bytes = [0u8; 356];
+        let mut bytes = [0u8; TapeList::MOST_LIST_BYTES];
         put_list(&mut bytes, list);
         put_record(out, epoch, &bytes[..n]);
         return Encoded::Written(48 + n);

@@ -1,19 +1,29 @@
 -- A run of bytes put into a byte area. Everything that is written into lent memory is a `put`: a number, a copy and a fill alike. So what a write
 -- leaves alone is said once. Assumes nothing.
-use mathlib.Core.Path.{_≡_, refl, sym, _∙_}
+use mathlib.Core.Path.{_≡_, refl, sym, ap, _∙_}
 use mathlib.Core.Logic.{_≢_}
-use mathlib.Core.List.{List, [], _∷_, _++_}
+use mathlib.Core.List.{List, [], _∷_, _++_, append-nil}
 use Prim.Native.Nat.{ℕ, zero, suc, _+_, _-_, _≤_, _<_}
 use native.Mathlib.Nat.{add-assoc, add-zero, zero-add}
 use native.Mathlib.Numerals.{add-one}
 use native.Mathlib.Omega.{arith}
-use lib.ListN.{length, getD, set, take, drop, replicate, length-set, take-append-drop, drop-of-length-le}
-use lib.Seq.{getD-set-same, getD-set-other, drop-cons, append-snoc, take-append-seam, drop-at, length-take-le, take-suc-set, take-set-le, drop-set-lt}
+use lib.ListN.{length, getD, set, take, drop, replicate, length-set, length-drop, take-append-drop, drop-of-length-le}
+use lib.Seq.{getD-set-same, getD-set-other, drop-cons, append-snoc, take-append-seam, take-add, drop-at, length-take-le, take-suc-set, take-set-le, drop-set-lt}
 
 -- s, with bs in the place of what stands from at on
 unfoldable pub put : List ℕ → ℕ → List ℕ → List ℕ
 put s at [] = s
 put s at (b ∷ bs) = put (set s at b) (at + 1) bs
+
+-- ---- parts of an area
+
+-- a part that lies inside is as long as it says
+pub length-part : (n : ℕ) (s : List ℕ) (at : ℕ) → at + n ≤ length s → length (take n (drop at s)) ≡ n
+length-part n s at h = length-take-le n (drop at s) (simp length-drop (omega arith))
+
+-- the front part without its own front
+pub drop-take : (m n : ℕ) (s : List ℕ) → m ≤ length s → drop m (take (m + n) s) ≡ take n (drop m s)
+drop-take m n s h = ap (drop m) (take-add m n s) ∙ drop-at (take m s) (take n (drop m s)) m (length-take-le m s h)
 
 -- ---- what a put keeps and what it writes
 
@@ -63,6 +73,14 @@ put-is s at (b ∷ bs) h =
 -- a run put at the front: the run, and what stood behind it
 pub put-front : (s bs : List ℕ) → length bs ≤ length s → put s 0 bs ≡ bs ++ drop (length bs) s
 put-front s bs h = put-is s 0 bs (omega arith) ∙ rw (zero-add (length bs))
+
+-- a run that fills the area is all of it
+pub put-whole : (s bs : List ℕ) → length bs ≡ length s → put s 0 bs ≡ bs
+put-whole s bs e =
+    let over : length s ≤ length bs = omega arith in
+    put-front s bs (omega arith)
+    ∙ ap (λ (l : List ℕ). bs ++ l) (drop-of-length-le s over)
+    ∙ append-nil bs
 
 -- the part that was put, and the parts before and behind it
 pub part-put : (s : List ℕ) (at : ℕ) (bs : List ℕ) → at + length bs ≤ length s → take (length bs) (drop at (put s at bs)) ≡ bs

@@ -6,9 +6,9 @@ use native.Mathlib.Nat.{div-div-eq-div-mul, add-assoc, mod-eq-of-lt, pow-suc, po
 use native.Mathlib.Numerals.{add-one}
 use native.Mathlib.Omega.{arith}
 use lib.Arith.{mod-mul}
-use lib.ListN.{length, getD, set, take, drop, length-set, length-drop, length-append}
-use lib.Seq.{getD-set-same, getD-drop, drop-cons, take-at, length-take-le}
-use Rattle.octets.specs.Bytes.{put, length-put, getD-put-other}
+use lib.ListN.{length, getD, set, take, drop, length-set, length-append}
+use lib.Seq.{getD-set-same, getD-take, getD-drop, drop-cons, take-at}
+use Rattle.octets.specs.Bytes.{put, length-part, length-put, getD-put-other}
 
 -- v in k bytes
 unfoldable pub le : ℕ → ℕ → List ℕ
@@ -142,11 +142,16 @@ unfolding numAt
 numAt-drop zero s a b = refl
 numAt-drop (suc k) s a b = rw (getD-drop a s b 0, add-assoc, numAt-drop k s a (b + 1))
 
+-- a number in the front part of an area
+pub numAt-take : (k : ℕ) (s : List ℕ) (at m : ℕ) → at + k ≤ m → numAt k (take m s) at ≡ numAt k s at
+unfolding numAt
+numAt-take zero s at m h = refl
+numAt-take (suc k) s at m h = rw (getD-take m s at 0 (omega arith), numAt-take k s (at + 1) m (omega arith))
+
 pub le-numAt : (k : ℕ) (s : List ℕ) (at : ℕ) → Bytes s → at + k ≤ length s → le k (numAt k s at) ≡ take k (drop at s)
 le-numAt k s at p h =
-    let long : length (take k (drop at s)) ≡ k = length-take-le k (drop at s) (simp length-drop (omega arith)) in
     ap (λ (n : ℕ). le k n) (numAt-part k s at h)
-    ∙ ap (λ (n : ℕ). le n (unle (take k (drop at s)))) (sym long)
+    ∙ ap (λ (n : ℕ). le n (unle (take k (drop at s)))) (sym (length-part k s at h))
     ∙ le-unle (take k (drop at s)) (bytes-take k (drop at s) (bytes-drop at s p))
 
 pub numAt-le : (k v : ℕ) (rest : List ℕ) → v < 256 ^ k → numAt k (le k v ++ rest) 0 ≡ v

@@ -24,7 +24,7 @@ returns c =
     let take-u32 = c .before .before .before .before .before .take-u32 in
     let args = c .before .before .before .before .before .before .before .args in
     let f = count .given .0 in
-    let number : takeNumber 4 (args .s .now) 0 ≡ Number (f .0) (f .1 .0) = cc in
+    let number : takeNumber 4 (args .s .now) 0 ≡ Number (f .0) (f .1 .0) = sym (take-u32 .ensures) ∙ count .given .1 in
     c .unreadable .ensures ∙ ap decodedOf (sym (list-many (args .s .now) number (omega arith)))
 
 decode-tapes-requires : tie.Need-decode-tapes-requires
@@ -42,15 +42,15 @@ returns-2 c =
     let take-u32 = c .before .before .before .before .before .take-u32 in
     let args = c .before .before .before .before .before .before .before .args in
     let f = count .given .0 in
-    let number : takeNumber 4 (args .s .now) 0 ≡ Number (f .0) (f .1 .0) = cc in
+    let number : takeNumber 4 (args .s .now) 0 ≡ Number (f .0) (f .1 .0) = sym (take-u32 .ensures) ∙ count .given .1 in
     c .decode-tapes .ensures ∙ ap decodedOf (sym (list-counted (args .s .now) number (omega arith)))
 
 returns-3 : tie.Need-returns-3
 returns-3 c =
-    let told = c .before .enum-told .given .1 in
+    let enum-told = c .before .enum-told in
     let take-u32 = c .before .before .before .take-u32 in
     let args = c .before .before .before .before .before .args in
-    let none : takeNumber 4 (args .s .now) 0 ≡ ShortNumber = cc in
+    let none : takeNumber 4 (args .s .now) 0 ≡ ShortNumber = sym (take-u32 .ensures) ∙ enum-told .given .1 in
     c .unreadable2 .ensures ∙ ap decodedOf (sym (list-short (args .s .now) none))
 
 pub decode-list-spec : {M : Type 1} → statement M

@@ -10,12 +10,15 @@ use lib.ListN.{length, take, drop, set, replicate, length-append}
 use Rattle.borsh.specs.declared.Cursor.{Cursor}
 use Rattle.metadata.specs.declared.list.TapeMetadata.{TapeMetadata}
 use Rattle.metadata.specs.declared.list.TapeList.{TapeList}
+use Rattle.metadata.specs.declared.decode.TakenTape.{TakenTape}
 use Rattle.metadata.specs.declared.decode.TakenTape.the-variants.{Found, NotFound}
 use Rattle.metadata.specs.Tapes.{Tape, tapeAt, Part}
 use Rattle.metadata.specs.Decoding.{Listing, unreadable, nextTape, decodeFrom}
 use Rattle.metadata.specs.Decoding as listing
 use Rattle.metadata.specs.Struct.{stored, blank, listOf, decodedOf}
-use Rattle.metadata.specs.DecodingLaws.{prependAll, prependAll-snoc, prependAll-tapes, prependAll-unreadable, decode-step, decode-stop, decode-end, decode-over, next-inside, next-short, store-next}
+use Rattle.metadata.specs.StructLaws.{store-next}
+use Rattle.metadata.specs.DecodingLaws.{prependAll, prependAll-snoc, prependAll-tapes, prependAll-unreadable, decode-step, decode-stop, decode-end, decode-over}
+use Rattle.metadata.specs.Taken.{next-inside, next-short}
 use Rattle.metadata.proofs.decode.decode_tapes.Statement.{statement}
 use Rattle.metadata.proofs.decode.decode_tapes.Tie as tie
 
@@ -67,10 +70,10 @@ module _ {s : List ℕ} {count first : ℕ} {array : List TapeMetadata} {at befo
       }
 
   -- no tape, where one is to come
-  stopped : i < count → nextTape (part s before end) s at ≡ NotFound → decodeFrom count [] s first ≡ unreadable
-  stopped l e =
+  stopped : {x : TakenTape} → i < count → x ≡ nextTape (part s before end) s at → x ≡ NotFound → decodeFrom count [] s first ≡ unreadable
+  stopped l e f =
       sym (r .rest)
-      ∙ ap (prependAll (r .done)) (decode-stop count i (part s before end) s at l e)
+      ∙ ap (prependAll (r .done)) (decode-stop count i (part s before end) s at l (sym e ∙ f))
       ∙ prependAll-unreadable (r .done)
 
   -- a byte over
@@ -110,10 +113,7 @@ found : (c : tie.After-known-told Inv-loop μ-loop)
     let s = c .before .before .before .before .before .before .before .before .args .s .now in
     nextTape (part s (loop .before) (loop .before-end)) s (loop .at)
     ≡ Found (f .0) (f .1 .0) (f .1 .1 .0) (f .1 .1 .1 .0) (f .1 .1 .1 .1 .0)
-found c =
-    let place = c .before .place in
-    let next-tape = c .before .before .before .next-tape in
-    cc
+found c = sym (c .before .before .before .next-tape .ensures) ∙ c .before .place .given .1
 
 inside : (c : tie.After-known-told Inv-loop μ-loop)
     → let f = c .before .place .given .0 in
@@ -151,12 +151,9 @@ unreadable-requires c κs = search needs
 
 returns : tie.Need-returns Inv-loop μ-loop
 returns c =
-    let told = c .before .enum-told .given .1 in
-    let next-tape = c .before .before .before .next-tape in
     let loop = c .before .before .before .before .before .loop in
-    let s = c .before .before .before .before .before .before .before .before .args .s .now in
-    let none : nextTape (part s (loop .before) (loop .before-end)) s (loop .at) ≡ NotFound = cc in
-    c .unreadable .ensures ∙ ap decodedOf (sym (stopped (loop .inv) (omega arith) none))
+    let none = stopped (loop .inv) (omega arith) (c .before .before .before .next-tape .ensures) (c .before .enum-told .given .1) in
+    c .unreadable .ensures ∙ ap decodedOf (sym none)
 
 add-tape-from : tie.Need-add-tape-from Inv-loop μ-loop
 add-tape-from c =

@@ -4,7 +4,7 @@ use Prim.Native.Nat.{_-_}
 use borrow.Author.Needs.{needs}
 use lib.ListN.{take, drop}
 use Rattle.metadata.specs.Tapes.{tapeAt}
-use Rattle.metadata.specs.DecodingLaws.{fits-not-after, fits-no-name, fits-numbers}
+use Rattle.metadata.specs.Rules.{fits-not-after, fits-no-name, fits-numbers}
 use Rattle.metadata.proofs.decode.may_follow.Statement.{statement}
 use Rattle.metadata.proofs.decode.may_follow.Tie as tie
 

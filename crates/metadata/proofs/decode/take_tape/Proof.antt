@@ -1,5 +1,5 @@
 -- `metadata::take_tape` answers `takeTape`: each way out is that of the first part that is not there. Assumes nothing.
-use mathlib.Core.Path.{_≡_, sym}
+use mathlib.Core.Path.{_≡_, sym, _∙_}
 use borrow.Author.Needs.{needs}
 use Rattle.borsh.specs.declared.TakenNumber.the-variants.{Number, ShortNumber}
 use Rattle.borsh.specs.declared.TakenBytes.the-variants.{Bytes, ShortBytes}
@@ -19,10 +19,10 @@ enum-told c = search needs
 
 returns : tie.Need-returns
 returns c =
-    let told = c .enum-told .given .1 in
+    let enum-told = c .enum-told in
     let take-vec = c .before .before .take-vec in
     let args = c .before .before .before .before .args in
-    let name-read : takeVec (args .s .now) (args .at) ≡ ShortBytes = cc in
+    let name-read : takeVec (args .s .now) (args .at) ≡ ShortBytes = sym (take-vec .ensures) ∙ enum-told .given .1 in
     sym (tape-no-name (args .s .now) (args .at) name-read)
 
 take-u64-requires : tie.Need-take-u64-requires
@@ -42,8 +42,8 @@ returns-2 c =
     let take-vec = c .before .before .before .before .before .before .take-vec in
     let args = c .before .before .before .before .before .before .before .before .args in
     let f = place .given .0 in
-    let name-read : takeVec (args .s .now) (args .at) ≡ Bytes (f .0) (f .1 .0) (f .1 .1 .0) = cc in
-    let len-read : takeNumber 8 (args .s .now) (f .1 .1 .0 .at) ≡ ShortNumber = cc in
+    let name-read : takeVec (args .s .now) (args .at) ≡ Bytes (f .0) (f .1 .0) (f .1 .1 .0) = sym (take-vec .ensures) ∙ place .given .1 in
+    let len-read : takeNumber 8 (args .s .now) (f .1 .1 .0 .at) ≡ ShortNumber = sym (take-u64 .ensures) ∙ enum-told2 .given .1 in
     sym (tape-no-len (args .s .now) (args .at) name-read len-read)
 
 take-u64-requires-2 : tie.Need-take-u64-requires-2
@@ -66,9 +66,9 @@ returns-3 c =
     let args = c .before .before .before .before .before .before .before .before .before .before .before .before .args in
     let f = place .given .0 in
     let g = len .given .0 in
-    let name-read : takeVec (args .s .now) (args .at) ≡ Bytes (f .0) (f .1 .0) (f .1 .1 .0) = cc in
-    let len-read : takeNumber 8 (args .s .now) (f .1 .1 .0 .at) ≡ Number (g .0) (g .1 .0) = cc in
-    let start-read : takeNumber 8 (args .s .now) (g .1 .0 .at) ≡ ShortNumber = cc in
+    let name-read : takeVec (args .s .now) (args .at) ≡ Bytes (f .0) (f .1 .0) (f .1 .1 .0) = sym (take-vec .ensures) ∙ place .given .1 in
+    let len-read : takeNumber 8 (args .s .now) (f .1 .1 .0 .at) ≡ Number (g .0) (g .1 .0) = sym (take-u64 .ensures) ∙ len .given .1 in
+    let start-read : takeNumber 8 (args .s .now) (g .1 .0 .at) ≡ ShortNumber = sym (take-u642 .ensures) ∙ enum-told3 .given .1 in
     sym (tape-no-start (args .s .now) (args .at) name-read len-read start-read)
 
 returns-4 : tie.Need-returns-4
@@ -83,9 +83,9 @@ returns-4 c =
     let f = place .given .0 in
     let g = len .given .0 in
     let h = start .given .0 in
-    let name-read : takeVec (args .s .now) (args .at) ≡ Bytes (f .0) (f .1 .0) (f .1 .1 .0) = cc in
-    let len-read : takeNumber 8 (args .s .now) (f .1 .1 .0 .at) ≡ Number (g .0) (g .1 .0) = cc in
-    let start-read : takeNumber 8 (args .s .now) (g .1 .0 .at) ≡ Number (h .0) (h .1 .0) = cc in
+    let name-read : takeVec (args .s .now) (args .at) ≡ Bytes (f .0) (f .1 .0) (f .1 .1 .0) = sym (take-vec .ensures) ∙ place .given .1 in
+    let len-read : takeNumber 8 (args .s .now) (f .1 .1 .0 .at) ≡ Number (g .0) (g .1 .0) = sym (take-u64 .ensures) ∙ len .given .1 in
+    let start-read : takeNumber 8 (args .s .now) (g .1 .0 .at) ≡ Number (h .0) (h .1 .0) = sym (take-u642 .ensures) ∙ start .given .1 in
     sym (tape-found (args .s .now) (args .at) name-read len-read start-read)
 
 pub take-tape-spec : {M : Type 1} → statement M

@@ -4,9 +4,9 @@ use Prim.Native.Nat.{_-_}
 use native.Mathlib.Omega.{arith}
 use borrow.Author.Needs.{needs}
 use lib.ListN.{length, take, drop, replicate}
-use Rattle.octets.specs.Bytes.{put}
+use Rattle.octets.specs.Bytes.{put, length-part}
 use Rattle.metadata.specs.Struct.{stored}
-use Rattle.metadata.specs.DecodingLaws.{length-part, stored-name}
+use Rattle.metadata.specs.StructLaws.{stored-name}
 use Rattle.metadata.proofs.decode.tape_from.Statement.{statement}
 use Rattle.metadata.proofs.decode.tape_from.Tie as tie
 
@@ -37,7 +37,7 @@ returns c =
     let s = args .s .now in
     let n = args .end - args .place in
     let name = take n (drop (args .place) s) in
-    let long : length name ≡ n = length-part s (args .place) n (omega arith) in
+    let long : length name ≡ n = length-part n s (args .place) (omega arith) in
     let copied : copy-in .last .0 ≡ put (replicate 24 0) 0 name = copy-in .ensures in
     rw (copied, stored-name name (omega arith), long)
 

@@ -7,7 +7,7 @@ use lib.ListN.{length}
 use lib.Seq.{length-take-le}
 use Rattle.octets.specs.Compare.{comesBefore}
 use Rattle.metadata.specs.Name.{nameRule}
-use Rattle.metadata.specs.Tapes.{fits}
+use Rattle.metadata.specs.Rules.{fits-not-after, fits-no-name, fits-numbers}
 use Rattle.metadata.specs.Struct.{meaning}
 use borrow.Author.Needs.{needs}
 use Rattle.metadata.proofs.encode.fits_behind.Statement.{statement}
@@ -74,7 +74,6 @@ is-name-requires : tie.Need-is-name-requires
 is-name-requires c κs = search needs
 
 returns-2 : tie.Need-returns-2
-unfolding fits
 returns-2 c =
     let if3 = c .before .if3 in
     let is-name = c .before .before .is-name in
@@ -85,10 +84,9 @@ returns-2 c =
     let order : comesBefore (meaning (args .before) .name) (meaning (args .t) .name) ≡ true = sym (comes-before .ensures) ∙ if2 .taken in
     let rule : nameRule (meaning (args .t) .name) ≡ true = sym (is-name .ensures) ∙ if3 .taken in
     let short = le-leb (args .t .letters) 24 (omega arith) in
-    rw (short, order, rule)
+    rw (short, fits-numbers (meaning (args .before) .name) (meaning (args .t)) order rule)
 
 returns-3 : tie.Need-returns-3
-unfolding fits
 returns-3 c =
     let if3 = c .if3 in
     let is-name = c .before .is-name in
@@ -99,10 +97,9 @@ returns-3 c =
     let order : comesBefore (meaning (args .before) .name) (meaning (args .t) .name) ≡ true = sym (comes-before .ensures) ∙ if2 .taken in
     let rule : nameRule (meaning (args .t) .name) ≡ false = sym (is-name .ensures) ∙ if3 .left in
     let short = le-leb (args .t .letters) 24 (omega arith) in
-    rw (short, order, rule)
+    rw (short, fits-no-name (meaning (args .before) .name) (meaning (args .t)) order rule)
 
 returns-4 : tie.Need-returns-4
-unfolding fits
 returns-4 c =
     let if2 = c .if2 in
     let comes-before = c .before .comes-before in
@@ -110,7 +107,7 @@ returns-4 c =
     let args = c .before .before .before .before .before .before .before .args in
     let order : comesBefore (meaning (args .before) .name) (meaning (args .t) .name) ≡ false = sym (comes-before .ensures) ∙ if2 .left in
     let short = le-leb (args .t .letters) 24 (omega arith) in
-    rw (short, order)
+    rw (short, fits-not-after (meaning (args .before) .name) (meaning (args .t)) order)
 
 pub fits-behind-spec : {M : Type 1} → statement M
 fits-behind-spec =

@@ -70,7 +70,7 @@ loop-again c =
     let long = eight (args .t1 .tapes) (search needs) in
     let t = getD (args .t1 .tapes) (loop .i) none in
     let before = meaning (loop .before) .name in
-    let test : ((leb (t .letters) 24) && (fits before (meaning t))) ≡ true = sym (fits-behind .ensures) ∙ if2 .taken in
+    let test : (leb (t .letters) 24 && fits before (meaning t)) ≡ true = sym (fits-behind .ensures) ∙ if2 .taken in
     record {
       within = omega arith;
       letters = leb-true (t .letters) 24 (both-left (leb (t .letters) 24) (fits before (meaning t)) test);
@@ -89,7 +89,7 @@ returns-2 c =
     let long = eight (args .t1 .tapes) (search needs) in
     let t = getD (args .t1 .tapes) (loop .i) none in
     let before = meaning (loop .before) .name in
-    let test : ((leb (t .letters) 24) && (fits before (meaning t))) ≡ false = sym (fits-behind .ensures) ∙ if2 .left in
+    let test : (leb (t .letters) 24 && fits before (meaning t)) ≡ false = sym (fits-behind .ensures) ∙ if2 .left in
     sym
     (storable-few (args .t1) (omega arith)
     ∙ sym (loop .inv .rest)

@@ -5,13 +5,12 @@ use mathlib.Core.List.{List}
 use Prim.Native.Nat.{ℕ, _+_, _-_, _≤_}
 use native.Mathlib.Omega.{arith}
 use lib.ListN.{length, take, drop}
-use Rattle.octets.specs.Number.{Bytes as AllBytes}
 use Rattle.octets.specs.Compare.{sameBytes}
 use Rattle.borsh.specs.declared.Cursor.{Cursor}
 use Rattle.borsh.specs.declared.TakenNumber.the-variants.{Number, ShortNumber}
 use Rattle.borsh.specs.declared.TakenBytes.the-variants.{Bytes, ShortBytes}
 use Rattle.borsh.specs.Taking.{takeNumber, takeArray, takeVec}
-use Rattle.borsh.specs.Back.{take-array-was, take-vec-was}
+use Rattle.borsh.specs.Back.{take-array-was, take-vec-inside}
 use Rattle.metadata.specs.declared.record.Reading.the-variants.{Whole, Empty}
 use Rattle.metadata.specs.Record.{hashOf, readRecord}
 use Rattle.metadata.specs.RecordLaws.{read-no-version, read-no-hash, read-no-epoch, read-no-list, read-all}
@@ -25,12 +24,11 @@ record Parts (s : List ℕ) (hash epoch list n : ℕ) : Type 0 where
   hash-end : hash + 32 ≤ length s
   list-end : list + n ≤ length s
 
-parts : (s : List ℕ) (version hash m epoch list n : ℕ) (a b c d : Cursor) → AllBytes s → takeNumber 4 s 0 ≡ Number version a
+parts : (s : List ℕ) {version hash m epoch list n : ℕ} {a b c d : Cursor} → takeNumber 4 s 0 ≡ Number version a
     → takeArray 32 s (a .at) ≡ Bytes hash m b → takeNumber 8 s (b .at) ≡ Number epoch c → takeVec s (c .at) ≡ Bytes list n d → Parts s hash epoch list n
-parts s version hash m epoch list n a b c d bytes p q r o =
+parts s {a = a} {c = c} p q r o =
     let h = take-array-was 32 s (a .at) q in
-    let l = take-vec-was s (c .at) bytes o in
-    record { all = read-all s p q r o; hash-end = omega (arith, h .begins, h .ends, h .fits); list-end = omega (arith, l .begins, l .ends, l .fits) }
+    record { all = read-all s p q r o; hash-end = omega (arith, h .begins, h .ends, h .fits); list-end = take-vec-inside s (c .at) o }
 
 -- what was compared, as the code has the parts' ends
 compared : (s : List ℕ) (hash epoch list n : ℕ) (r t : Bool) → r ≡ sameBytes (take (hash + 32 - hash) (drop hash s)) (hashOf epoch (take (list + n - list) (drop list s))) → r ≡ t
@@ -58,7 +56,6 @@ here c =
     let take-array = c .before .before .before .before .before .before .before .before .before .before .before .take-array in
     let after-version = c .before .before .before .before .before .before .before .before .before .before .before .before .before .after-version in
     let take-u32 = c .before .before .before .before .before .before .before .before .before .before .before .before .before .before .before .take-u32 in
-    let shared-slice-known = c .before .before .before .before .before .before .before .before .before .before .before .before .before .before .before .before .shared-slice-known in
     let args = c .before .before .before .before .before .before .before .before .before .before .before .before .before .before .before .before .before .args in
     let s = args .s .now in
     let v = after-version .given .0 in
@@ -69,23 +66,7 @@ here c =
     let hash-read : takeArray 32 s (v .1 .0 .at) ≡ Bytes (h .0) (h .1 .0) (h .1 .1 .0) = sym (take-array .ensures) ∙ hash .given .1 in
     let epoch-read : takeNumber 8 s (h .1 .1 .0 .at) ≡ Number (e .0) (e .1 .0) = sym (take-u64 .ensures) ∙ epoch .given .1 in
     let list-read : takeVec s (e .1 .0 .at) ≡ Bytes (l .0) (l .1 .0) (l .1 .1 .0) = sym (take-vec .ensures) ∙ list .given .1 in
-    parts
-    s
-    (v .0)
-    (h .0)
-    (h .1 .0)
-    (e .0)
-    (l .0)
-    (l .1 .0)
-    (v .1 .0)
-    (h .1 .1 .0)
-    (e .1 .0)
-    (l .1 .1 .0)
-    (λ i. omega (arith, shared-slice-known .given i))
-    version-read
-    hash-read
-    epoch-read
-    list-read
+    parts s version-read hash-read epoch-read list-read
 
 take-u32-requires : tie.Need-take-u32-requires
 take-u32-requires c κs = search needs
