@@ -2,22 +2,10 @@
 // and then the message, which comes in two parts. One block of it is laid out at a time.
 ghost use mathlib.Core.Path.{_≡_};
 ghost use mathlib.Core.List.{_++_};
-ghost use Prim.Native.Nat.{_+_, _<_, _≤_, _^_, min, max};
+ghost use Prim.Native.Nat.{_+_, _<_, _≤_, _^_};
 ghost use lib.ListN.{length};
 ghost use Rattle.blake2b.specs.Blake2b.{keyed, blockFrom};
 ghost use Rattle.blake2b.specs.Message.{laid, Lengths};
-
-fn larger(a: usize, b: usize) -> usize
-    ensures { λ r. ⌜ r ≡ max a b ⌝ }
-{
-    if a < b { b } else { a }
-}
-
-fn smaller(a: usize, b: usize) -> usize
-    ensures { λ r. ⌜ r ≡ min a b ⌝ }
-{
-    if a < b { a } else { b }
-}
 
 // Lays the bytes of a part into a block: the block shows the data from at on, and the part stands
 // in the data from the place `from` on. What of it lies outside the block is passed over.
@@ -27,8 +15,8 @@ fn lay(block: &mut [u8; 128], at: usize, part: &[u8], from: usize)
 {
     // As a slice, since a proof learns there that the block has 128 bytes.
     let whole: &mut [u8] = block;
-    let first = larger(at, from);
-    let stop = smaller(at + 128, from + part.len());
+    let first = octets::larger(at, from);
+    let stop = octets::smaller(at + 128, from + part.len());
     if first < stop {
         let a = first - from;
         let e = stop - from;

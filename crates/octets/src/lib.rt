@@ -6,7 +6,7 @@
 // what is written (a number, a copy and a fill are each a `put`), `sameBytes` and `comesBefore` for
 // comparisons. Proved, and nothing is assumed. The callers keep each place inside its slice.
 ghost use mathlib.Core.Path.{_≡_};
-ghost use Prim.Native.Nat.{_+_, _-_, _≤_, _<_};
+ghost use Prim.Native.Nat.{_+_, _-_, _≤_, _<_, min, max};
 ghost use lib.ListN.{length, replicate};
 ghost use Rattle.octets.specs.Bytes.{put};
 ghost use Rattle.octets.specs.Number.{numAt, putNum};
@@ -23,6 +23,24 @@ fn wide32(x: u8) -> u32
     ensures { λ r. ⌜ (r ≡ x) × (r < 256) ⌝ }
 {
     x as u32
+}
+
+pub fn smaller(a: usize, b: usize) -> usize
+    ensures { λ r. ⌜ r ≡ min a b ⌝ }
+{
+    if b < a {
+        return b;
+    }
+    a
+}
+
+pub fn larger(a: usize, b: usize) -> usize
+    ensures { λ r. ⌜ r ≡ max a b ⌝ }
+{
+    if a < b {
+        return b;
+    }
+    a
 }
 
 // The number in the eight bytes of s from at on.

@@ -1,0 +1,5 @@
+pub mod Ring
+pub mod Around
+pub mod RingLaws
+pub mod Ways
+mod Examples

@@ -1,0 +1,123 @@
+// Where the held bytes stand, how many they are, and which of the tape's they are.
+use std::num::wrapping_add_u64;
+ghost use mathlib.Core.Path.{_≡_};
+ghost use Prim.Native.Nat.{_-_, _≤_, _<_};
+ghost use Rattle.ring_buffer.specs.Ring.{fresh, resetTo, pushed, popped, truncated, prepared};
+
+pub struct RingBuffer {
+    // How many bytes the ring has room for.
+    pub capacity: usize,
+    // The place of the first held byte.
+    pub start: usize,
+    // How many bytes are held, at most the capacity.
+    pub len: usize,
+    // The index in the tape of the first held byte.
+    pub first: u64,
+}
+
+// How far a lies above b; 0 where it does not.
+fn above(a: u64, b: u64) -> u64
+    ensures { λ r. ⌜ r ≡ a - b ⌝ }
+{
+    if a < b {
+        return 0;
+    }
+    a - b
+}
+
+impl RingBuffer {
+    // A ring that holds nothing.
+    pub fn new(capacity: usize, first: u64) -> Self
+        ensures { λ r. ⌜ r ≡ fresh capacity first ⌝ }
+    {
+        RingBuffer {
+            capacity: capacity,
+            start: 0,
+            len: 0,
+            first: first,
+        }
+    }
+
+    // The ring after its first `len` bytes were filled with the tape's from an index on.
+    pub fn reset(self, len: usize, first: u64) -> Self
+        ensures { λ r. ⌜ r ≡ resetTo self len first ⌝ }
+    {
+        RingBuffer {
+            capacity: self.capacity,
+            start: 0,
+            len: len,
+            first: first,
+        }
+    }
+
+    // The ring after n bytes were pushed, before which `missed` bytes went by it. In a legal state no
+    // index passes 2^64; in damaged memory it wraps.
+    pub fn push(self, n: usize, missed: u64) -> Self
+        requires { ⌜ (self .start < self .capacity) × ((self .len ≤ self .capacity) × ((n ≤ self .capacity) × (self .capacity ≤ 4096))) ⌝ }
+        ensures { λ r. ⌜ r ≡ pushed self n missed ⌝ }
+    {
+        let capacity = self.capacity;
+        let all = self.len + n;
+        if all <= capacity {
+            return RingBuffer {
+                capacity: capacity,
+                start: self.start,
+                len: all,
+                first: wrapping_add_u64(self.first, missed),
+            };
+        }
+        let over = all - capacity;
+        RingBuffer {
+            capacity: capacity,
+            start: (self.start + over) % capacity,
+            len: capacity,
+            first: wrapping_add_u64(wrapping_add_u64(self.first, over as u64), missed),
+        }
+    }
+
+    // The ring after an amount of bytes was taken back from its end; what it does not hold moves its
+    // first index down.
+    pub fn pop(self, amount: u64) -> Self
+        ensures { λ r. ⌜ r ≡ popped self amount ⌝ }
+    {
+        let len = self.len as u64;
+        RingBuffer {
+            capacity: self.capacity,
+            start: self.start,
+            len: above(len, amount) as usize,
+            first: above(self.first, above(amount, len)),
+        }
+    }
+
+    // The ring after its tape was cut to a length. Its first index stays, so that an old window
+    // still finds its bytes above the length.
+    pub fn truncate(self, tape_len: u64) -> Self
+        ensures { λ r. ⌜ r ≡ truncated self «tape_len» ⌝ }
+    {
+        let room = above(tape_len, self.first);
+        if room < self.len as u64 {
+            return RingBuffer {
+                capacity: self.capacity,
+                start: self.start,
+                len: room as usize,
+                first: self.first,
+            };
+        }
+        self
+    }
+
+    // The ring before a write: an empty one takes the tape's length as its first index.
+    pub fn prepare_write(self, tape_len: u64) -> Self
+        ensures { λ r. ⌜ r ≡ prepared self «tape_len» ⌝ }
+    {
+        if self.len == 0 {
+            return RingBuffer {
+                capacity: self.capacity,
+                start: self.start,
+                len: 0,
+                first: tape_len,
+            };
+        }
+        self
+    }
+}
