@@ -1,11 +1,12 @@
 -- Laws of the encodings: how long they are, that they are bytes, that no two values share one, and what the order of keys says. Assumes nothing.
 use mathlib.Core.Path.{_≡_, refl, sym, ap, _∙_}
-use mathlib.Core.Bool.{Bool, true, _&&_, and-eq-true-iff}
+use mathlib.Core.Bool.{true}
 use mathlib.Core.List.{List, [], _∷_, _++_, append-assoc}
 use Prim.Native.Nat.{ℕ, _+_, _<_, _^_}
 use native.Mathlib.Omega.{arith}
 use lib.ListN.{length, take, drop, length-append}
 use lib.Seq.{take-at, drop-at}
+use Rattle.octets.specs.Cases.{and-l, and-r, and-both}
 use Rattle.octets.specs.Bytes.{put, put-append}
 use Rattle.octets.specs.Number.{le, Bytes, length-le, le-inj, bytes-le, bytes-append}
 use Rattle.octets.specs.Compare.{comesBefore}
@@ -69,16 +70,7 @@ vec-inj a b r t f g e =
     (sym (append-assoc (le 4 (length a)) a r) ∙ e ∙ append-assoc (le 4 (length b)) b t) in
     append-inj a b r t (q .0) (q .1)
 
--- ---- both, and the order of keys
-
-pub both-left : (a b : Bool) → (a && b) ≡ true → a ≡ true
-both-left a b e = and-eq-true-iff a b .0 e .0
-
-pub both-right : (a b : Bool) → (a && b) ≡ true → b ≡ true
-both-right a b e = and-eq-true-iff a b .0 e .1
-
-pub both-true : (a b : Bool) → a ≡ true → b ≡ true → (a && b) ≡ true
-both-true a b p q = and-eq-true-iff a b .1 (p, q)
+-- ---- the order of keys
 
 module _ {A : Type 0} (key : A → List ℕ) (before : List ℕ) where
   pub ascending-nil : ascending key before [] ≡ true
@@ -87,12 +79,12 @@ module _ {A : Type 0} (key : A → List ℕ) (before : List ℕ) where
 
   pub ascending-head : (x : A) (xs : List A) → ascending key before (x ∷ xs) ≡ true → comesBefore before (key x) ≡ true
   unfolding ascending
-  ascending-head x xs = both-left (comesBefore before (key x)) (ascending key (key x) xs)
+  ascending-head x xs = and-l (comesBefore before (key x)) (ascending key (key x) xs)
 
   pub ascending-tail : (x : A) (xs : List A) → ascending key before (x ∷ xs) ≡ true → ascending key (key x) xs ≡ true
   unfolding ascending
-  ascending-tail x xs = both-right (comesBefore before (key x)) (ascending key (key x) xs)
+  ascending-tail x xs = and-r (comesBefore before (key x)) (ascending key (key x) xs)
 
   pub ascending-cons : (x : A) (xs : List A) → comesBefore before (key x) ≡ true → ascending key (key x) xs ≡ true → ascending key before (x ∷ xs) ≡ true
   unfolding ascending
-  ascending-cons x xs = both-true (comesBefore before (key x)) (ascending key (key x) xs)
+  ascending-cons x xs = and-both (comesBefore before (key x)) (ascending key (key x) xs)

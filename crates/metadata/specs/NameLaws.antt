@@ -10,8 +10,8 @@ use borrow.Author.Tests.{le-leb, lt-leb, leb-true, leb-false, ne-eqb}
 use lib.Dec.{leb}
 use lib.ListN.{length, getD, drop, drop-of-length-le}
 use lib.Seq.{drop-cons}
+use Rattle.octets.specs.Cases.{and-l, and-r}
 use Rattle.octets.specs.Number.{Bytes}
-use Rattle.borsh.specs.Laws.{both-left, both-right}
 use Rattle.metadata.specs.Name.{between, nameByte, nameBytes, nameRule}
 
 -- ---- one byte
@@ -72,8 +72,8 @@ module _ (s : List ℕ) (i : ℕ) where
 bytes-all : (bs : List ℕ) → nameBytes bs ≡ true → Bytes bs
 unfolding nameBytes
 bytes-all [] e i = omega arith
-bytes-all (b ∷ bs) e zero = byte-small b (both-left (nameByte b) (nameBytes bs) e)
-bytes-all (b ∷ bs) e (suc i) = bytes-all bs (both-right (nameByte b) (nameBytes bs) e) i
+bytes-all (b ∷ bs) e zero = byte-small b (and-l (nameByte b) (nameBytes bs) e)
+bytes-all (b ∷ bs) e (suc i) = bytes-all bs (and-r (nameByte b) (nameBytes bs) e) i
 
 -- ---- the rule
 
@@ -95,9 +95,9 @@ module _ (name : List ℕ) where
   unfolding nameRule
   rule-fits e =
       let n = length name in
-      leb-true n 24 (both-right (leb 1 n) (leb n 24) (both-left (between 1 24 n) (nameBytes name) e))
+      leb-true n 24 (and-r (leb 1 n) (leb n 24) (and-l (between 1 24 n) (nameBytes name) e))
 
   -- and they are bytes
   pub bytes-name : nameRule name ≡ true → Bytes name
   unfolding nameRule
-  bytes-name e = bytes-all name (both-right (between 1 24 (length name)) (nameBytes name) e)
+  bytes-name e = bytes-all name (and-r (between 1 24 (length name)) (nameBytes name) e)

@@ -7,10 +7,11 @@ use native.Mathlib.Omega.{arith}
 use borrow.Author.Tests.{le-leb, leb-true}
 use lib.Dec.{leb}
 use lib.ListN.{length}
+use Rattle.octets.specs.Cases.{and-l, and-r, and-both}
 use Rattle.octets.specs.Number.{le, Bytes, bytes-le, bytes-append}
 use Rattle.octets.specs.Compare.{comesBefore}
 use Rattle.borsh.specs.Encoding.{vec, each, sortedMap, ascending}
-use Rattle.borsh.specs.Laws.{bytes-vec, both-left, both-right, both-true, ascending-nil, ascending-cons}
+use Rattle.borsh.specs.Laws.{bytes-vec, ascending-nil, ascending-cons}
 use Rattle.metadata.specs.Name.{nameRule}
 use Rattle.metadata.specs.NameLaws.{rule-fits, bytes-name}
 use Rattle.metadata.specs.Tapes.{Tape, encodeTape, encodeList, fits, goodAfter, goodList}
@@ -40,13 +41,13 @@ module _ (before : List ℕ) (t : Tape) where
       let order = comesBefore before (t .name) in
       let rule = nameRule (t .name) in
       let inside = leb (t .start) (t .len) in
-      let others : (rule && inside) ≡ true = both-right order (rule && inside) e in
-      let named : rule ≡ true = both-left rule inside others in
+      let others : (rule && inside) ≡ true = and-r order (rule && inside) e in
+      let named : rule ≡ true = and-l rule inside others in
       record {
-        order = both-left order (rule && inside) e;
+        order = and-l order (rule && inside) e;
         short = rule-fits (t .name) named;
         bytes = bytes-name (t .name) named;
-        inside = leb-true (t .start) (t .len) (both-right rule inside others);
+        inside = leb-true (t .start) (t .len) (and-r rule inside others);
       }
 
   -- the ways out of the test
@@ -68,30 +69,30 @@ module _ (before : List ℕ) (t : Tape) (ts : List Tape) where
   -- the first of good tapes, and the others
   pub good-first : goodAfter before (t ∷ ts) ≡ true → fits before t ≡ true
   unfolding goodAfter
-  good-first = both-left (fits before t) (goodAfter (t .name) ts)
+  good-first = and-l (fits before t) (goodAfter (t .name) ts)
 
   pub good-others : goodAfter before (t ∷ ts) ≡ true → goodAfter (t .name) ts ≡ true
   unfolding goodAfter
-  good-others = both-right (fits before t) (goodAfter (t .name) ts)
+  good-others = and-r (fits before t) (goodAfter (t .name) ts)
 
   pub good-cons : fits before t ≡ true → goodAfter (t .name) ts ≡ true → goodAfter before (t ∷ ts) ≡ true
   unfolding goodAfter
-  good-cons = both-true (fits before t) (goodAfter (t .name) ts)
+  good-cons = and-both (fits before t) (goodAfter (t .name) ts)
 
 module _ (ts : List Tape) (good : goodList ts ≡ true) where
   -- a good list has at most eight tapes, and they are good
   pub good-few : length ts ≤ 8
   unfolding goodList
-  good-few = leb-true (length ts) 8 (both-left (leb (length ts) 8) (goodAfter [] ts) good)
+  good-few = leb-true (length ts) 8 (and-l (leb (length ts) 8) (goodAfter [] ts) good)
 
   pub good-tapes : goodAfter [] ts ≡ true
   unfolding goodList
-  good-tapes = both-right (leb (length ts) 8) (goodAfter [] ts) good
+  good-tapes = and-r (leb (length ts) 8) (goodAfter [] ts) good
 
 -- and such a list is good
 pub good-list : (ts : List Tape) → length ts ≤ 8 → goodAfter [] ts ≡ true → goodList ts ≡ true
 unfolding goodList
-good-list ts few = both-true (leb (length ts) 8) (goodAfter [] ts) (le-leb (length ts) 8 few)
+good-list ts few = and-both (leb (length ts) 8) (goodAfter [] ts) (le-leb (length ts) 8 few)
 
 -- ---- sorted
 

@@ -10,10 +10,11 @@ use borrow.Author.Tests.{le-leb, lt-leb, leb-true}
 use lib.Dec.{leb}
 use lib.ListN.{length, take, drop, set, replicate, length-append, length-take, length-replicate, length-map}
 use lib.Seq.{take-append-seam, take-at, set-at}
+use Rattle.octets.specs.Cases.{and-l, and-r, and-both}
 use Rattle.octets.specs.Bytes.{put, put-front}
 use Rattle.octets.specs.Number.{length-le}
 use Rattle.borsh.specs.Encoding.{each}
-use Rattle.borsh.specs.Laws.{length-vec, length-sortedMap, both-left, both-right, both-true}
+use Rattle.borsh.specs.Laws.{length-vec, length-sortedMap}
 use Rattle.metadata.specs.declared.list.TapeMetadata.{TapeMetadata}
 use Rattle.metadata.specs.declared.list.TapeList.{TapeList}
 use Rattle.metadata.specs.declared.encode.Encoded.{Encoded}
@@ -50,17 +51,17 @@ length-encodeList ts e =
 module _ (before : List ℕ) (t : TapeMetadata) (ts : List TapeMetadata) (e : storableAfter before (t ∷ ts) ≡ true) where
   pub storable-letters : t .letters ≤ 24
   unfolding storableAfter
-  storable-letters = leb-true (t .letters) 24 (both-left (leb (t .letters) 24) (fits before (meaning t) && storableAfter (meaning t .name) ts) e)
+  storable-letters = leb-true (t .letters) 24 (and-l (leb (t .letters) 24) (fits before (meaning t) && storableAfter (meaning t .name) ts) e)
 
   behind-letters : (fits before (meaning t) && storableAfter (meaning t .name) ts) ≡ true
   unfolding storableAfter
-  behind-letters = both-right (leb (t .letters) 24) (fits before (meaning t) && storableAfter (meaning t .name) ts) e
+  behind-letters = and-r (leb (t .letters) 24) (fits before (meaning t) && storableAfter (meaning t .name) ts) e
 
   pub storable-fits : fits before (meaning t) ≡ true
-  storable-fits = both-left (fits before (meaning t)) (storableAfter (meaning t .name) ts) behind-letters
+  storable-fits = and-l (fits before (meaning t)) (storableAfter (meaning t .name) ts) behind-letters
 
   pub storable-others : storableAfter (meaning t .name) ts ≡ true
-  storable-others = both-right (fits before (meaning t)) (storableAfter (meaning t .name) ts) behind-letters
+  storable-others = and-r (fits before (meaning t)) (storableAfter (meaning t .name) ts) behind-letters
 
 good-after : (before : List ℕ) (ts : List TapeMetadata) → storableAfter before ts ≡ true → goodAfter before (map meaning ts) ≡ true
 unfolding goodAfter
@@ -71,11 +72,11 @@ good-after before (t ∷ ts) e =
 module _ (l : TapeList) (e : storable l ≡ true) where
   pub storable-count : l .count ≤ 8
   unfolding storable
-  storable-count = leb-true (l .count) 8 (both-left (leb (l .count) 8) (storableAfter [] (take (l .count) (l .tapes))) e)
+  storable-count = leb-true (l .count) 8 (and-l (leb (l .count) 8) (storableAfter [] (take (l .count) (l .tapes))) e)
 
   pub storable-tapes : storableAfter [] (take (l .count) (l .tapes)) ≡ true
   unfolding storable
-  storable-tapes = both-right (leb (l .count) 8) (storableAfter [] (take (l .count) (l .tapes))) e
+  storable-tapes = and-r (leb (l .count) 8) (storableAfter [] (take (l .count) (l .tapes))) e
 
   pub storable-good : goodList (tapesOf l) ≡ true
   unfolding tapesOf
@@ -115,11 +116,11 @@ storable-after before (t ∷ ts) e =
     let same = meaning-stored t in
     let u = meaning (stored t) in
     let s = storableAfter (u .name) (map stored ts) in
-    both-true
+    and-both
     (leb (stored t .letters) 24)
     (fits before u && s)
     (le-leb (stored t .letters) 24 (rw (stored-letters t) (fits-true before t follows .short)))
-    (both-true (fits before u) s (ap (fits before) same ∙ follows) (ap (λ (x : Tape). storableAfter (x .name) (map stored ts)) same ∙ rest))
+    (and-both (fits before u) s (ap (fits before) same ∙ follows) (ap (λ (x : Tape). storableAfter (x .name) (map stored ts)) same ∙ rest))
 
 pub storable-list : (ts : List Tape) → goodList ts ≡ true → storable (listOf ts) ≡ true
 unfolding storable listOf

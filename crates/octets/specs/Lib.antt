@@ -1,3 +1,4 @@
+pub mod Cases
 pub mod Bytes
 pub mod Number
 pub mod Compare

@@ -1,29 +1,14 @@
 -- Bytes put around a ring: where each goes, what is left as it was, and that one or two copies do it. Assumes nothing.
 use mathlib.Core.Path.{_≡_, refl, sym, ap, _∙_}
 use mathlib.Core.List.{List, [], _∷_, _++_}
-use Prim.Native.Nat.{ℕ, zero, suc, _+_, _-_, _/_, _%_, _≤_, _<_}
-use native.Mathlib.Nat.{add-zero, div-add-mod', mod-lt, mod-eq-of-lt, mod-add-mod, mod-self, mul-le-mul-right}
-use native.Mathlib.Decide.{decLt}
+use Prim.Native.Nat.{ℕ, zero, suc, _+_, _-_, _%_, _≤_, _<_}
+use native.Mathlib.Nat.{add-zero, mod-lt, mod-eq-of-lt, mod-add-mod, mod-self}
 use native.Mathlib.Omega.{arith}
 use lib.ListN.{length, getD, set, take, drop, length-set, take-append-drop, length-drop}
 use lib.Seq.{getD-set-same, getD-set-other, ext-getD, getD-drop, length-take-le}
+use Rattle.octets.specs.Cases.{mod-apart}
 use Rattle.octets.specs.Bytes.{put}
 use Rattle.ring_buffer.specs.Ring.{around}
-
--- an order, decided
-pub order {κ} : {P : Type κ} (a b : ℕ) → (a < b → P) → (b ≤ a → P) → P
-order {P} a b f g = go (decLt a b)
-  where
-    go : Dec (a < b) → P
-    go (yes l) = f l
-    go (no n) = g (omega arith)
-
--- places less than a capacity apart are different
-pub mod-apart : (c a b : ℕ) → a < b → b < a + c → a % c ≡ b % c → ⊥
-mod-apart c a b l u e =
-    order (a / c) (b / c)
-    (λ h. omega (arith, div-add-mod' a c, div-add-mod' b c, mul-le-mul-right c h))
-    (λ h. omega (arith, div-add-mod' a c, div-add-mod' b c, mul-le-mul-right c h))
 
 pub length-around : (c : ℕ) (bytes : List ℕ) (e : ℕ) (d : List ℕ) → length (around c bytes e d) ≡ length bytes
 unfolding around

@@ -2,4 +2,3 @@ pub mod Ring
 pub mod Around
 pub mod RingLaws
 pub mod Ways
-mod Examples

@@ -1,9 +1,9 @@
 -- The ring cache (`src/tapes/cached_tape/ring_buffer.rs`; document 01, "Cache steps"): `len` bytes of the tape from the index `first` on stand in the
 -- bytes from the place `start` on, past the capacity from place 0. Assumes nothing.
-use mathlib.Core.Bool.{cond}
+use mathlib.Core.Bool.{Bool, cond}
 use mathlib.Core.List.{List, [], _∷_}
 use Prim.Native.Nat.{ℕ, zero, suc, _+_, _-_, _%_, _^_, _≤_, _<_, min}
-use lib.Dec.{eqb}
+use lib.Dec.{eqb, leb}
 use lib.ListN.{getD, set, take, drop}
 use Rattle.ring_buffer.specs.declared.bookkeeping.RingBuffer.{RingBuffer}
 
@@ -24,6 +24,14 @@ nth r bytes k = getD bytes ((r .start + k) % r .capacity) 0
 unfoldable pub nths : RingBuffer → List ℕ → ℕ → ℕ → List ℕ
 nths r bytes k zero = []
 nths r bytes k (suc n) = nth r bytes k ∷ nths r bytes (k + 1) n
+
+-- "A read takes offsets from the cache's first index upward out of the cache, even above its length"
+abbrev pub fromCache : RingBuffer → ℕ → Bool
+fromCache r o = leb (r .first) o
+
+-- the tape's byte at an offset, as the cache has it
+abbrev pub ringAt : RingBuffer → List ℕ → ℕ → ℕ
+ringAt r bytes o = nth r bytes (o - r .first)
 
 -- the bytes that the ring holds, in tape order
 abbrev pub held : RingBuffer → List ℕ → List ℕ

@@ -8,7 +8,8 @@ use lib.ListN.{length, getD, take, drop, length-append, length-take, List·getD-
 use lib.Seq.{ext-getD, getD-take, getD-drop, getD-append-add, length-take-le, take-at}
 use Rattle.ring_buffer.specs.declared.bookkeeping.RingBuffer.{RingBuffer}
 use Rattle.ring_buffer.specs.Ring.{Sound, nth, nths, held, firstPart, secondPart, around, ring, over, pushed, popped, truncated, prepared, fresh, resetTo}
-use Rattle.ring_buffer.specs.Around.{order, mod-apart, length-around, around-out, around-in}
+use Rattle.ring_buffer.specs.Around.{length-around, around-out, around-in}
+use Rattle.octets.specs.Cases.{order, mod-apart}
 
 -- ---- a run of the tape
 

@@ -8,7 +8,7 @@ use borrow.Author.Needs.{needs}
 use borrow.Author.Tests.{lt-leb, leb-true}
 use lib.Dec.{leb}
 use lib.ListN.{take, drop, getD}
-use Rattle.borsh.specs.Laws.{both-left}
+use Rattle.octets.specs.Cases.{and-l}
 use Rattle.metadata.specs.declared.list.TapeMetadata.{TapeMetadata}
 use Rattle.metadata.specs.declared.list.TapeList.{TapeList}
 use Rattle.metadata.specs.Tapes.{fits}
@@ -73,7 +73,7 @@ loop-again c =
     let test : (leb (t .letters) 24 && fits before (meaning t)) ≡ true = sym (fits-behind .ensures) ∙ if2 .taken in
     record {
       within = omega arith;
-      letters = leb-true (t .letters) 24 (both-left (leb (t .letters) 24) (fits before (meaning t)) test);
+      letters = leb-true (t .letters) 24 (and-l (leb (t .letters) 24) (fits before (meaning t)) test);
       rest = sym (storable-go (args .t1 .tapes) (args .t1 .count) (loop .i) before none (omega arith) (omega arith) test) ∙ loop .inv .rest;
     }
 
