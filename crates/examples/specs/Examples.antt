@@ -36,20 +36,20 @@ abbrev abcdef : List ℕ
 abcdef = 0x61 ∷ 0x62 ∷ 0x63 ∷ 0x64 ∷ 0x65 ∷ 0x66 ∷ []
 
 -- one put that fills the cache: its last four bytes are pushed, the two before them went by, and all six go to the files
-abbrev filled : RingBuffer
+abbrev pub filled : RingBuffer
 filled = pushed (fresh 4 0) 4 2
 
-abbrev filledBytes : List ℕ
+abbrev pub filledBytes : List ℕ
 filledBytes = around 4 (replicate 4 0) 0 (drop 2 abcdef)
 
 abbrev files : Files
 files = write 4 noFiles 0 abcdef
 
 -- `g` staged, and dropped
-abbrev staged : RingBuffer
+abbrev pub staged : RingBuffer
 staged = pushed filled 1 0
 
-abbrev stagedBytes : List ℕ
+abbrev pub stagedBytes : List ℕ
 stagedBytes = around 4 filledBytes (filled .start + filled .len) (0x67 ∷ [])
 
 abbrev dropped : RingBuffer
@@ -61,11 +61,11 @@ byte o = cond (fromCache dropped o) (some (ringAt dropped stagedBytes o)) (byteA
 
 -- ---- 6 and 7: ten bytes in the files 0 to 2, at epoch 1
 
-abbrev ten : Files
+abbrev pub ten : Files
 ten = write 4 noFiles 0 (0x30 ∷ 0x31 ∷ 0x32 ∷ 0x33 ∷ 0x34 ∷ 0x35 ∷ 0x36 ∷ 0x37 ∷ 0x38 ∷ 0x39 ∷ [])
 
 -- what an append commit leaves: the new start, the epoch at which it began, and those of the other transactions
-abbrev commit : ℕ → ℕ → List ℕ → Files → Files
+abbrev pub commit : ℕ → ℕ → List ℕ → Files → Files
 commit start began others f = remove (oldestOther began others) (markBelow (fileOf 4 start) began f)
 
 -- which of the files 0, 1 and 2 are there
