@@ -1,5 +1,5 @@
--- Marks lie from the lowest tracked file on, whatever steps were taken. So the Rust's loops, which mark downward up to the first mark and clear upward up
--- to the first file without one, do what `markBelow` and `clearFrom` say of each number. Assumes nothing.
+-- Marks lie from the lowest tracked file on, whatever steps were taken. It follows, and is not stated here, that the Rust's loops, which mark downward
+-- up to the first mark and clear upward up to the first file without one, do what `markBelow` and `clearFrom` say of each number. Assumes nothing.
 use mathlib.Core.Path.{_≡_, refl, sym, _∙_}
 use mathlib.Core.Bool.{true, false, cond, false≢true, true≢false}
 use mathlib.Core.Option.{none}

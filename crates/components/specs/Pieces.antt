@@ -1,5 +1,5 @@
 -- Which file an offset lies in, where in it, and what of a run of bytes falls into it. Document 01, "Tape steps": "File number = offset / file size".
--- All that is above uses these three and their laws alone. Assumes nothing.
+-- Where files are of another shape, these three and their laws are what changes. Assumes nothing.
 use mathlib.Core.List.{List, [], _∷_}
 use Prim.Native.Nat.{ℕ, zero, suc, _+_, _-_, _/_, _%_, min}
 

@@ -1,4 +1,4 @@
--- Files and places of offsets, and the pieces of a run: no law above this file looks at a quotient again. Assumes nothing.
+-- Files and places of offsets, and the pieces of a run. Assumes nothing.
 use mathlib.Core.Path.{_≡_, refl, sym, ap, _∙_}
 use mathlib.Core.Logic.{⊎-elim}
 use mathlib.Core.List.{List, [], _∷_, List·Memᴰ, List·Memᴰ·cases-cons, List·Memᴰ·not-nil}

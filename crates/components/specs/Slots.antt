@@ -22,7 +22,7 @@ lackingFrom there k (suc n) = cond (there k) 0 1 + lackingFrom there (k + 1) n
 unfoldable pub covered : ℕ → ℕ → ℕ → ℕ
 covered fs base end = cond (ltb base end) (fileOf fs (end - 1) - fileOf fs base + 1) 0
 
--- the pairs that the disk lacks, over all tapes that are staged
+-- the pairs that the disk lacks, over all tapes that are staged, each of them once
 unfoldable pub lacking : (ℕ → ℕ → Bool) → List Staged → ℕ
 lacking there [] = 0
 lacking there (t ∷ ts) = lackingFrom (there (t .tape)) (fileOf (t .size) (t .base)) (covered (t .size) (t .base) (t .end)) + lacking there ts

@@ -18,7 +18,7 @@ use Rattle.components.specs.Pieces.{fileOf}
 use Rattle.components.specs.FileBytes.{written}
 use Rattle.components.specs.Files.{Files, noFiles, byteAt, writeByte, write, markBelow, ripeBelow, remove}
 use Rattle.components.specs.Epochs.{older, least, oldestOther}
-use Rattle.components.specs.Bounds.{inBounds}
+use Rattle.components.specs.Bounds.{inBounds, shiftedStart}
 
 -- ---- 2: tape `a`, len 11, start 6
 
@@ -84,7 +84,7 @@ pub record Examples : Type 0 where
       ∷ []
   two-length : length (encodeList a) ≡ 25
   two-record : (epoch : ℕ) → length (encodeRecord epoch (encodeList a)) ≡ 73
-  -- 3: file 1 is `00 00 68 65`, file 2 `6C 6C 6F`; there is no other
+  -- 3: file 1 is `00 00 68 65`, file 2 `6C 6C 6F`; there is no file 0
   three : hello 1 .bytes ≡ 0x00 ∷ 0x00 ∷ 0x68 ∷ 0x65 ∷ []
   three-2 : hello 2 .bytes ≡ 0x6C ∷ 0x6C ∷ 0x6F ∷ []
   three-there : there hello ≡ false ∷ true ∷ true ∷ []
@@ -98,10 +98,10 @@ pub record Examples : Type 0 where
   five-dropped-first : dropped .first ≡ 3
   five-read : byte 2 ∷ byte 3 ∷ [] ≡ some 0x63 ∷ some 0x64 ∷ []
   -- 6: shift to 8 beside a reader of epoch 1: nothing is removed; the next touching commit, with nobody else, removes 0 and 1
-  six : there (commit 8 1 (1 ∷ []) ten) ≡ true ∷ true ∷ true ∷ []
-  six-closed : there (commit 8 2 [] (commit 8 1 (1 ∷ []) ten)) ≡ false ∷ false ∷ true ∷ []
+  six : there (commit (shiftedStart 0 8) 1 (1 ∷ []) ten) ≡ true ∷ true ∷ true ∷ []
+  six-closed : there (commit 8 2 [] (commit (shiftedStart 0 8) 1 (1 ∷ []) ten)) ≡ false ∷ false ∷ true ∷ []
   -- 7: the same without a reader, shift to 7: file 0 goes at once
-  seven : there (commit 7 1 [] ten) ≡ false ∷ true ∷ true ∷ []
+  seven : there (commit (shiftedStart 0 7) 1 [] ten) ≡ false ∷ true ∷ true ∷ []
   -- 8: readers at epochs 2 and 3, epoch 3: an append waits for 1
   eight : older 3 (2 ∷ 3 ∷ []) ≡ 1
   -- 9: len 10: 0 bytes at 10 are in bounds, 1 byte at 10 is not

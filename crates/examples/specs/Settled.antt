@@ -7,12 +7,13 @@ use mathlib.Core.List.{List, [], _∷_}
 use Prim.Native.Nat.{ℕ}
 use lib.Dec.{eqb}
 use Rattle.octets.specs.Bytes.{put}
-use Rattle.ring_buffer.specs.Ring.{nth, nths, firstPart, secondPart, around, ring, pushed, truncated, prepared}
+use Rattle.ring_buffer.specs.Ring.{nth, nths, fromCache, ringAt, firstPart, secondPart, around, ring, pushed, popped, truncated, prepared}
 use Rattle.components.specs.Pieces.{fileOf, piece, piecesFrom, pieces}
 use Rattle.components.specs.FileBytes.{written}
 use Rattle.components.specs.Files.{File, Files, gone, writeByte, write, markBelow, ripeBelow, remove, clearFrom, track}
 use Rattle.components.specs.Epochs.{least, oldestOther}
 use Rattle.components.specs.Slots.{Staged, lackingFrom, covered, lacking, noSlot}
+use Rattle.components.specs.Bounds.{shiftedStart, cutStart}
 use Rattle.examples.specs.Examples.{ten, commit, filled, filledBytes, staged, stagedBytes}
 
 abbrev file : Bool → List ℕ → File
@@ -51,13 +52,23 @@ pub record Settled : Type 0 where
   -- the ring's two parts in tape order: `def` and `g`
   first-part : firstPart staged stagedBytes ≡ 0x64 ∷ 0x65 ∷ 0x66 ∷ []
   second-part : secondPart staged stagedBytes ≡ 0x67 ∷ []
-  -- an old window finds its bytes above the length after a cut to 3; a cache that a cut to 1 emptied takes the tape's length as its first index
-  old-window : nths (truncated filled 3) filledBytes 0 4 ≡ 0x63 ∷ 0x64 ∷ 0x65 ∷ 0x66 ∷ []
+  -- after a cut to 3 an old window still finds its bytes in the cache above the length
   shortened : truncated filled 3 ≡ ring 4 0 1 2
-  emptied : prepared (truncated filled 1) 1 ≡ ring 4 0 0 1
+  old-window : nths (truncated filled 3) filledBytes 0 4 ≡ 0x63 ∷ 0x64 ∷ 0x65 ∷ 0x66 ∷ []
+  old-offset : fromCache (truncated filled 3) 5 ≡ true
+  old-byte : ringAt (truncated filled 3) filledBytes 5 ≡ 0x66
+  -- a cut to 1 empties the cache and leaves its first index; the next write takes the tape's length
+  emptied : truncated filled 1 ≡ ring 4 0 0 2
+  begun : prepared (truncated filled 1) 1 ≡ ring 4 0 0 1
+  -- all six bytes dropped, of which the cache holds four: the first index goes back to 0
+  all-dropped : popped filled 6 ≡ ring 4 0 0 0
+  -- a shift never goes back; a cut below the start takes the start along
+  shift-back : shiftedStart 8 3 ≡ 8
+  cut-below : cutStart 8 4 ≡ 4
+  cut-above : cutStart 3 4 ≡ 3
 
 pub settled : Settled
-unfolding pieces piecesFrom written put writeByte write markBelow ripeBelow remove clearFrom track least oldestOther noSlot lacking lackingFrom covered nth nths firstPart secondPart around pushed truncated prepared
+unfolding pieces piecesFrom written put writeByte write markBelow ripeBelow remove clearFrom track least oldestOther noSlot lacking lackingFrom covered nth nths firstPart secondPart around pushed popped truncated prepared
 settled =
     record {
       in-pieces = refl;
@@ -71,7 +82,14 @@ settled =
       one-lacks = refl;
       first-part = refl;
       second-part = refl;
-      old-window = refl;
       shortened = refl;
+      old-window = refl;
+      old-offset = refl;
+      old-byte = refl;
       emptied = refl;
+      begun = refl;
+      all-dropped = refl;
+      shift-back = refl;
+      cut-below = refl;
+      cut-above = refl;
     }

@@ -7,7 +7,7 @@ use lib.Dec.{eqb, leb}
 use lib.ListN.{getD, set, take, drop}
 use Rattle.ring_buffer.specs.declared.bookkeeping.RingBuffer.{RingBuffer}
 
--- a ring that lies inside n bytes
+-- a ring of 1 to 4,096 bytes that lies inside n bytes and holds no more than its capacity
 pub record Sound (r : RingBuffer) (n : ℕ) : Type 0 where
   pub inside : r .start < r .capacity
   pub short : r .len ≤ r .capacity

@@ -1,15 +1,27 @@
 -- The laws of the ring: what a push keeps and what it overwrites, where each byte of the tape stands after it, and what a pop leaves. Assumes nothing.
 use mathlib.Core.Path.{_≡_, refl, sym, ap, _∙_}
+use mathlib.Core.Bool.{true, false}
 use mathlib.Core.List.{List, [], _∷_, _++_}
 use Prim.Native.Nat.{ℕ, zero, suc, _+_, _-_, _%_, _^_, _≤_, _<_, min}
 use native.Mathlib.Nat.{add-zero, zero-add, add-assoc, mod-lt, mod-eq-of-lt, mod-add-mod, add-mod-mod, mod-self, min-le-right}
 use native.Mathlib.Omega.{arith}
+use borrow.Author.Tests.{le-leb, lt-leb}
 use lib.ListN.{length, getD, take, drop, length-append, length-take, List·getD-append, length-drop}
 use lib.Seq.{ext-getD, getD-take, getD-drop, getD-append-add, length-take-le, take-at}
 use Rattle.ring_buffer.specs.declared.bookkeeping.RingBuffer.{RingBuffer}
-use Rattle.ring_buffer.specs.Ring.{Sound, nth, nths, held, firstPart, secondPart, around, ring, over, pushed, popped, truncated, prepared, fresh, resetTo}
+use Rattle.ring_buffer.specs.Ring.{Sound, fromCache, nth, nths, held, firstPart, secondPart, around, ring, over, pushed, popped, truncated, prepared, fresh, resetTo}
 use Rattle.ring_buffer.specs.Around.{length-around, around-out, around-in}
 use Rattle.octets.specs.Cases.{order, mod-apart}
+
+-- ---- reads
+
+-- every offset from the first index upward is the cache's, above its length too
+pub from-cache : (r : RingBuffer) (o : ℕ) → r .first ≤ o → fromCache r o ≡ true
+from-cache r o h = le-leb (r .first) o h
+
+-- and none below it
+pub not-from-cache : (r : RingBuffer) (o : ℕ) → o < r .first → fromCache r o ≡ false
+not-from-cache r o h = lt-leb (r .first) o h
 
 -- ---- a run of the tape
 
@@ -134,6 +146,11 @@ module _ (r : RingBuffer) where
   pub first-popped : (n : ℕ) → popped r n .first ≡ r .first - (n - r .len)
   unfolding popped
   first-popped n = refl
+
+  -- the end of what is cached goes back by what was popped, also by more than was held
+  pub end-popped : (n : ℕ) → n ≤ r .first + r .len → popped r n .first + popped r n .len ≡ r .first + r .len - n
+  unfolding popped
+  end-popped n h = omega arith
 
   pub len-truncated : (len : ℕ) → truncated r len .len ≡ min (r .len) (len - r .first)
   unfolding truncated

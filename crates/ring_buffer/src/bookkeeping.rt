@@ -11,7 +11,8 @@ pub struct RingBuffer {
     pub start: usize,
     // How many bytes are held, at most the capacity.
     pub len: usize,
-    // The index in the tape of the first held byte.
+    // The index in the tape of the first held byte, from which on reads are the cache's; of an empty
+    // ring it may lie above the tape's length.
     pub first: u64,
 }
 
@@ -76,7 +77,7 @@ impl RingBuffer {
     }
 
     // The ring after an amount of bytes was taken back from its end; what it does not hold moves its
-    // first index down.
+    // first index down, at most to 0.
     pub fn pop(self, amount: u64) -> Self
         ensures { λ r. ⌜ r ≡ popped self amount ⌝ }
     {
