@@ -4,8 +4,8 @@ use mathlib.Core.Path.{_≡_, refl}
 use mathlib.Core.Bool.{Bool, true, false, cond}
 use mathlib.Core.Option.{Option, some}
 use mathlib.Core.List.{List, [], _∷_}
-use Prim.Native.Nat.{ℕ, _+_, _-_}
-use lib.ListN.{length, drop, replicate}
+use Prim.Native.Nat.{ℕ, _-_}
+use lib.ListN.{length, replicate}
 use Rattle.octets.specs.Bytes.{put}
 use Rattle.octets.specs.Number.{le}
 use Rattle.borsh.specs.Encoding.{vec, each, sortedMap}
@@ -13,7 +13,8 @@ use Rattle.metadata.specs.Tapes.{Tape, encodeTape, encodeList}
 use Rattle.metadata.specs.Record.{encodeRecord}
 use Rattle.metadata.specs.RecordLaws.{length-record}
 use Rattle.ring_buffer.specs.declared.bookkeeping.RingBuffer.{RingBuffer}
-use Rattle.ring_buffer.specs.Ring.{nth, nths, held, fromCache, ringAt, around, fresh, pushed, popped}
+use Rattle.ring_buffer.specs.Ring.{nth, nths, held, fromCache, ringAt, around, fresh, pushed, popped, prepared}
+use Rattle.ring_buffer.specs.Put.{putRing, putBytes, unwrittenOf, sent, unwrittenAfter}
 use Rattle.components.specs.Pieces.{fileOf}
 use Rattle.components.specs.FileBytes.{written}
 use Rattle.components.specs.Files.{Files, noFiles, byteAt, writeByte, write, markBelow, ripeBelow, remove}
@@ -35,22 +36,22 @@ hello = write 4 noFiles 6 (0x68 ∷ 0x65 ∷ 0x6C ∷ 0x6C ∷ 0x6F ∷ [])
 abbrev abcdef : List ℕ
 abcdef = 0x61 ∷ 0x62 ∷ 0x63 ∷ 0x64 ∷ 0x65 ∷ 0x66 ∷ []
 
--- one put that fills the cache: its last four bytes are pushed, the two before them went by, and all six go to the files
+-- `abcdef` put at 0, which fills the cache
 abbrev pub filled : RingBuffer
-filled = pushed (fresh 4 0) 4 2
+filled = putRing (fresh 4 0) 0 abcdef
 
 abbrev pub filledBytes : List ℕ
-filledBytes = around 4 (replicate 4 0) 0 (drop 2 abcdef)
+filledBytes = putBytes (fresh 4 0) (replicate 4 0) abcdef
 
 abbrev files : Files
-files = write 4 noFiles 0 abcdef
+files = write 4 noFiles 0 (sent (fresh 4 0) (replicate 4 0) 0 abcdef)
 
--- `g` staged, and dropped
+-- the commit finds nothing unwritten; then `g` is put at 6, and dropped
 abbrev pub staged : RingBuffer
-staged = pushed filled 1 0
+staged = putRing filled 6 (0x67 ∷ [])
 
 abbrev pub stagedBytes : List ℕ
-stagedBytes = around 4 filledBytes (filled .start + filled .len) (0x67 ∷ [])
+stagedBytes = putBytes filled filledBytes (0x67 ∷ [])
 
 abbrev dropped : RingBuffer
 dropped = popped staged 1
@@ -91,9 +92,13 @@ pub record Examples : Type 0 where
   -- 4: the cache is `cdef`, first index 2
   four : held filled filledBytes ≡ 0x63 ∷ 0x64 ∷ 0x65 ∷ 0x66 ∷ []
   four-first : filled .first ≡ 2
+  four-sent : sent (fresh 4 0) (replicate 4 0) 0 abcdef ≡ abcdef
+  four-unwritten : unwrittenAfter (fresh 4 0) 0 6 ≡ 0
   -- 5: `g` staged: `defg`, index 3; dropped: `def`, index 3; 2 bytes at 2 are `cd`
   five : held staged stagedBytes ≡ 0x64 ∷ 0x65 ∷ 0x66 ∷ 0x67 ∷ []
   five-first : staged .first ≡ 3
+  five-sent : sent filled filledBytes 0 (0x67 ∷ []) ≡ []
+  five-unwritten : unwrittenAfter filled 0 1 ≡ 1
   five-dropped : held dropped stagedBytes ≡ 0x64 ∷ 0x65 ∷ 0x66 ∷ []
   five-dropped-first : dropped .first ≡ 3
   five-read : byte 2 ∷ byte 3 ∷ [] ≡ some 0x63 ∷ some 0x64 ∷ []
@@ -109,7 +114,7 @@ pub record Examples : Type 0 where
   nine-past : inBounds 1 0 10 10 1 ≡ false
 
 pub examples : Examples
-unfolding encodeList sortedMap each encodeTape vec le written put byteAt writeByte write markBelow ripeBelow remove least oldestOther older inBounds nth nths around pushed popped
+unfolding encodeList sortedMap each encodeTape vec le written put byteAt writeByte write markBelow ripeBelow remove least oldestOther older inBounds nth nths around pushed popped prepared putRing putBytes unwrittenOf sent unwrittenAfter
 examples =
     record {
       one = refl;
@@ -122,8 +127,12 @@ examples =
       three-there = refl;
       four = refl;
       four-first = refl;
+      four-sent = refl;
+      four-unwritten = refl;
       five = refl;
       five-first = refl;
+      five-sent = refl;
+      five-unwritten = refl;
       five-dropped = refl;
       five-dropped-first = refl;
       five-read = refl;

@@ -1,4 +1,5 @@
 pub mod Ring
 pub mod Around
 pub mod RingLaws
+pub mod Put
 pub mod Ways
