@@ -8,7 +8,7 @@ use native.Mathlib.Nat.{add-assoc, add-zero, zero-add}
 use native.Mathlib.Numerals.{add-one}
 use native.Mathlib.Omega.{arith}
 use lib.ListN.{length, getD, set, take, drop, replicate, length-set, length-drop, take-append-drop, drop-of-length-le}
-use lib.Seq.{getD-set-same, getD-set-other, drop-cons, append-snoc, take-append-seam, take-add, drop-at, length-take-le, take-suc-set, take-set-le, drop-set-lt}
+use lib.Seq.{getD-set-same, getD-set-other, drop-cons, append-snoc, take-append-seam, take-add, drop-at, length-take-le, take-suc-set, take-set-le, take-set-lt, drop-set-lt, drop-set-add, drop-drop}
 
 -- s, with bs in the place of what stands from at on
 unfoldable pub put : List ℕ → ℕ → List ℕ → List ℕ
@@ -70,6 +70,10 @@ put-is s at (b ∷ bs) h =
     rw (put-is (set s at b) (at + 1) bs (simp length-set (omega arith)), rest, front, e)
     (append-snoc (take at s) b (bs ++ drop (at + 1 + length bs) s))
 
+-- a part that was lent, put back between what stands before and behind it
+pub put-lent : (s : List ℕ) (at : ℕ) (part : List ℕ) → at + length part ≤ length s → take at s ++ (part ++ drop (length part) (drop at s)) ≡ put s at part
+put-lent s at part h = ap (λ (l : List ℕ). take at s ++ (part ++ l)) (drop-drop (length part) at s) ∙ sym (put-is s at part h)
+
 -- a run put at the front: the run, and what stood behind it
 pub put-front : (s bs : List ℕ) → length bs ≤ length s → put s 0 bs ≡ bs ++ drop (length bs) s
 put-front s bs h = put-is s 0 bs (omega arith) ∙ rw (zero-add (length bs))
@@ -87,6 +91,15 @@ pub part-put : (s : List ℕ) (at : ℕ) (bs : List ℕ) → at + length bs ≤ 
 part-put s at bs h =
     rw (put-is s at bs h, drop-at (take at s) (bs ++ drop (at + length bs) s) at (length-take-le at s (omega arith)))
     (take-append-seam bs (drop (at + length bs) s))
+
+-- a run put inside a part is put into that part
+pub part-put-inside : (n : ℕ) (s : List ℕ) (a k : ℕ) (bs : List ℕ) → k + length bs ≤ n → take n (drop a (put s (a + k) bs)) ≡ put (take n (drop a s)) k bs
+unfolding put
+part-put-inside n s a k [] h = refl
+part-put-inside n s a k (b ∷ bs) h =
+    ap (λ (i : ℕ). take n (drop a (put (set s (a + k) b) i bs))) (add-assoc a k 1)
+    ∙ part-put-inside n (set s (a + k) b) a (k + 1) bs (omega arith)
+    ∙ ap (λ (l : List ℕ). put l (k + 1) bs) (ap (take n) (drop-set-add a s k b) ∙ take-set-lt n (drop a s) k b (omega arith))
 
 pub take-put-below : (n : ℕ) (s : List ℕ) (at : ℕ) (bs : List ℕ) → n ≤ at → take n (put s at bs) ≡ take n s
 unfolding put

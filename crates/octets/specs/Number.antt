@@ -1,14 +1,14 @@
 -- Numbers in bytes, lowest byte first, of any width: four bytes are Rust's u32, eight its u64. Assumes nothing.
 use mathlib.Core.Path.{_≡_, refl, sym, ap, _∙_}
 use mathlib.Core.List.{List, [], _∷_, _++_}
-use Prim.Native.Nat.{ℕ, zero, suc, _+_, _*_, _/_, _%_, _≤_, _<_, _^_}
+use Prim.Native.Nat.{ℕ, zero, suc, _+_, _*_, _-_, _/_, _%_, _≤_, _<_, _^_}
 use native.Mathlib.Nat.{div-div-eq-div-mul, add-assoc, mod-eq-of-lt, pow-suc, pow-zero, one-le-pow, mod-one}
 use native.Mathlib.Numerals.{add-one}
 use native.Mathlib.Omega.{arith}
 use lib.Arith.{mod-mul}
-use lib.ListN.{length, getD, set, take, drop, length-set, length-append}
+use lib.ListN.{length, getD, set, take, drop, replicate, length-set, length-append, length-replicate}
 use lib.Seq.{getD-set-same, getD-take, getD-drop, drop-cons, take-at}
-use Rattle.octets.specs.Bytes.{put, length-part, length-put, getD-put-other}
+use Rattle.octets.specs.Bytes.{put, length-part, length-put, getD-put-other, getD-put-in}
 
 -- v in k bytes
 unfoldable pub le : ℕ → ℕ → List ℕ
@@ -88,6 +88,13 @@ bytes-take zero s p i = omega arith
 bytes-take (suc n) [] p i = omega arith
 bytes-take (suc n) (x ∷ s) p zero = p zero
 bytes-take (suc n) (x ∷ s) p (suc i) = bytes-take n s (λ j. p (suc j)) i
+
+pub bytes-set : (s : List ℕ) (i b : ℕ) → Bytes s → b < 256 → Bytes (set s i b)
+bytes-set [] i b p small j = omega arith
+bytes-set (x ∷ s) zero b p small zero = small
+bytes-set (x ∷ s) zero b p small (suc j) = p (suc j)
+bytes-set (x ∷ s) (suc i) b p small zero = p zero
+bytes-set (x ∷ s) (suc i) b p small (suc j) = bytes-set s i b (λ k. p (suc k)) small j
 
 pub bytes-drop : (n : ℕ) (s : List ℕ) → Bytes s → Bytes (drop n s)
 bytes-drop n s p i = rw getD-drop (p (n + i))
@@ -207,3 +214,31 @@ pub putNum-8 : (s : List ℕ) (at v : ℕ)
     (v / 0x100_0000_0000_0000 % 256)
 unfolding putNum put le
 putNum-8 s at v = simp (add-assoc, div-div-eq-div-mul)
+
+-- ---- a number among zeros
+
+pub getD-zeros : (n i : ℕ) → _≡_ {A = ℕ} (getD (replicate n 0) i 0) 0
+getD-zeros zero i = refl
+getD-zeros (suc n) zero = refl
+getD-zeros (suc n) (suc i) = getD-zeros n i
+
+pub numAt-zeros : (k n at : ℕ) → numAt k (replicate n 0) at ≡ 0
+unfolding numAt
+numAt-zeros zero n at = refl
+numAt-zeros (suc k) n at = rw (getD-zeros n at, numAt-zeros k n (at + 1))
+
+pub bytes-zeros : (n : ℕ) → Bytes (replicate n 0)
+bytes-zeros n i = rw (getD-zeros n i) (omega arith)
+
+-- in a part that was filled with zeros
+pub numAt-put-zeros : (k : ℕ) (s : List ℕ) (at n b : ℕ) → at + n ≤ length s → at ≤ b → b + k ≤ at + n → numAt k (put s at (replicate n 0)) b ≡ 0
+unfolding numAt
+numAt-put-zeros zero s at n b room low high = refl
+numAt-put-zeros (suc k) s at n b room low high =
+    let e : b ≡ at + (b - at) = omega arith in
+    let long = length-replicate {A = ℕ} n 0 in
+    let here : getD (put s at (replicate n 0)) b 0 ≡ 0
+    = ap (λ (x : ℕ). getD (put s at (replicate n 0)) x 0) e
+    ∙ getD-put-in s at (replicate n 0) (b - at) 0 (rw long room) (rw long (omega arith))
+    ∙ getD-zeros n (b - at) in
+    rw (here, numAt-put-zeros k s at n (b + 1) room (omega arith) (omega arith))

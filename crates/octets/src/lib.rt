@@ -12,6 +12,12 @@ ghost use Rattle.octets.specs.Bytes.{put};
 ghost use Rattle.octets.specs.Number.{numAt, putNum};
 ghost use Rattle.octets.specs.Compare.{sameBytes, comesBefore};
 
+// What a search finds.
+pub enum Found {
+    At(usize),
+    Nothing,
+}
+
 // A byte as a wider number. As a call it needs no proof that the byte fits.
 fn wide(x: u8) -> u64
     ensures { λ r. ⌜ (r ≡ x) × (r < 256) ⌝ }

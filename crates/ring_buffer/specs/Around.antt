@@ -8,12 +8,18 @@ use lib.ListN.{length, getD, set, take, drop, length-set, take-append-drop, leng
 use lib.Seq.{getD-set-same, getD-set-other, ext-getD, getD-drop, length-take-le}
 use Rattle.octets.specs.Cases.{mod-apart}
 use Rattle.octets.specs.Bytes.{put}
+use Rattle.octets.specs.Number.{Bytes, bytes-set}
 use Rattle.ring_buffer.specs.Ring.{around}
 
 pub length-around : (c : ℕ) (bytes : List ℕ) (e : ℕ) (d : List ℕ) → length (around c bytes e d) ≡ length bytes
 unfolding around
 length-around c bytes e [] = refl
 length-around c bytes e (b ∷ d) = length-around c (set bytes (e % c) b) (e + 1) d ∙ length-set bytes (e % c) b
+
+pub bytes-around : (c : ℕ) (bytes : List ℕ) (e : ℕ) (d : List ℕ) → Bytes bytes → Bytes d → Bytes (around c bytes e d)
+unfolding around
+bytes-around c bytes e [] p q = p
+bytes-around c bytes e (b ∷ d) p q = bytes-around c (set bytes (e % c) b) (e + 1) d (bytes-set bytes (e % c) b p (q 0)) (λ i. q (suc i))
 
 -- a place that no byte goes to
 pub around-out : (c : ℕ) (bytes : List ℕ) (e : ℕ) (d : List ℕ) (p : ℕ) → ((i : ℕ) → i < length d → (e + i) % c ≡ p → ⊥)

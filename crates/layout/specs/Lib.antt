@@ -1,0 +1,6 @@
+pub mod Names
+pub mod NamesLaws
+pub mod Disk
+pub mod DiskLaws
+pub mod Session
+pub mod SessionLaws

@@ -1,0 +1,66 @@
+-- `put_ring` writes a ring's bookkeeping word by word. Assumes nothing.
+use mathlib.Core.Path.{sym, _∙_}
+use borrow.Author.Needs.{needs}
+use Rattle.octets.specs.Words.{putWords-4}
+use Rattle.session.specs.Rows.{putRing}
+use Rattle.session.proofs.tape_rows.put_ring.Statement.{statement}
+use Rattle.session.proofs.tape_rows.put_ring.Tie as tie
+
+mul-at : tie.Need-mul-at
+mul-at c = search needs
+
+add-at : tie.Need-add-at
+add-at c = search needs
+
+add-at-2 : tie.Need-add-at-2
+add-at-2 c = search needs
+
+put-u64-requires : tie.Need-put-u64-requires
+put-u64-requires c κs = search needs
+
+add-put-u64 : tie.Need-add-put-u64
+add-put-u64 c = search needs
+
+put-u64-requires-2 : tie.Need-put-u64-requires-2
+put-u64-requires-2 c κs = search needs
+
+add-put-u64-2 : tie.Need-add-put-u64-2
+add-put-u64-2 c = search needs
+
+put-u64-requires-3 : tie.Need-put-u64-requires-3
+put-u64-requires-3 c κs = search needs
+
+add-put-u64-3 : tie.Need-add-put-u64-3
+add-put-u64-3 c = search needs
+
+put-u64-requires-4 : tie.Need-put-u64-requires-4
+put-u64-requires-4 c κs = search needs
+
+same-length : tie.Need-same-length
+same-length c = search needs
+
+returns : tie.Need-returns
+unfolding putRing
+returns c =
+    let put-u644 = c .before .before .put-u644 in
+    let put-u643 = c .before .before .before .before .before .before .put-u643 in
+    let put-u642 = c .before .before .before .before .before .before .before .before .before .before .put-u642 in
+    let put-u64 = c .before .before .before .before .before .before .before .before .before .before .before .before .before .before .put-u64 in
+    put-u644 .ensures ∙ rw (put-u643 .ensures, put-u642 .ensures, put-u64 .ensures) (sym (putWords-4 _ _ _ _ _ _))
+
+pub put-ring-spec : {M : Type 1} → statement M
+put-ring-spec =
+    tie.close
+    (tie.spec
+    mul-at
+    add-at
+    add-at-2
+    put-u64-requires
+    add-put-u64
+    put-u64-requires-2
+    add-put-u64-2
+    put-u64-requires-3
+    add-put-u64-3
+    put-u64-requires-4
+    same-length
+    returns)
