@@ -2,7 +2,7 @@
 use layout::Disk;
 use octets::Found;
 ghost use mathlib.Core.Path.{_≡_};
-ghost use Prim.Native.Nat.{_+_, _≤_, _<_};
+ghost use Prim.Native.Nat.{_+_, _<_};
 ghost use Rattle.layout.specs.Disk.{Sound, slots};
 ghost use Rattle.disk.specs.Steps.{isFile, isFree, findIn, findFile, freeSlot, files};
 

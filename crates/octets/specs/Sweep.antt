@@ -1,18 +1,17 @@
 -- A step made at each of a run of rows, one after the other: what the whole does to a table is said once, over the step. Assumes nothing.
 use mathlib.Core.Path.{_≡_, refl, ap, _∙_}
 use mathlib.Core.Logic.{_≢_}
-use mathlib.Core.List.{List}
 use Prim.Native.Nat.{ℕ, zero, suc, _+_, _-_, _≤_, _<_}
 use native.Mathlib.Omega.{arith}
 use Rattle.octets.specs.Cases.{equal}
 
--- at the k rows from i on
-unfoldable pub sweep : (ℕ → List ℕ → List ℕ) → ℕ → ℕ → List ℕ → List ℕ
+-- at the k rows from i on, of one area or of both
+unfoldable pub sweep : {S : Type 0} → (ℕ → S → S) → ℕ → ℕ → S → S
 sweep f zero i s = s
 sweep f (suc k) i s = sweep f k (i + 1) (f i s)
 
 -- ---- one turn, and the end, where n - i are left
-module _ (f : ℕ → List ℕ → List ℕ) (n i : ℕ) (s : List ℕ) where
+module _ {S : Type 0} (f : ℕ → S → S) (n i : ℕ) (s : S) where
   pub sweep-turn : i < n → sweep f (n - i) i s ≡ sweep f (n - (i + 1)) (i + 1) (f i s)
   unfolding sweep
   sweep-turn l =
@@ -28,22 +27,22 @@ module _ (f : ℕ → List ℕ → List ℕ) (n i : ℕ) (s : List ℕ) where
 -- ---- what it does
 
 -- what each step keeps, the whole keeps
-pub sweep-keeps : (P : List ℕ → Type 0) (f : ℕ → List ℕ → List ℕ) (k i : ℕ) (s : List ℕ)
-    → ((j : ℕ) (t : List ℕ) → i ≤ j → j < i + k → P t → P (f j t)) → P s → P (sweep f k i s)
+pub sweep-keeps : {S : Type 0} (P : S → Type 0) (f : ℕ → S → S) (k i : ℕ) (s : S)
+    → ((j : ℕ) (t : S) → i ≤ j → j < i + k → P t → P (f j t)) → P s → P (sweep f k i s)
 unfolding sweep
 sweep-keeps P f zero i s h p = p
 sweep-keeps P f (suc k) i s h p =
     sweep-keeps P f k (i + 1) (f i s) (λ j t l m q. h j t (omega arith) (omega arith) q) (h i s (omega arith) (omega arith) p)
 
 -- a step that changes its own row alone, by g, changes each row of the run by g, and no other row
-pub record Rowwise {A : Type 0} (P : List ℕ → Type 0) (row : List ℕ → ℕ → A) (f : ℕ → List ℕ → List ℕ) (g : ℕ → A → A) (n : ℕ) : Type 0 where
-  pub keeps : (i : ℕ) (s : List ℕ) → i < n → P s → P (f i s)
-  pub own : (i : ℕ) (s : List ℕ) → i < n → P s → row (f i s) i ≡ g i (row s i)
-  pub other : (i j : ℕ) (s : List ℕ) → i < n → j < n → j ≢ i → P s → row (f i s) j ≡ row s j
+pub record Rowwise {S A : Type 0} (P : S → Type 0) (row : S → ℕ → A) (f : ℕ → S → S) (g : ℕ → A → A) (n : ℕ) : Type 0 where
+  pub keeps : (i : ℕ) (s : S) → i < n → P s → P (f i s)
+  pub own : (i : ℕ) (s : S) → i < n → P s → row (f i s) i ≡ g i (row s i)
+  pub other : (i j : ℕ) (s : S) → i < n → j < n → j ≢ i → P s → row (f i s) j ≡ row s j
 
-module _ {A : Type 0} (P : List ℕ → Type 0) (row : List ℕ → ℕ → A) (f : ℕ → List ℕ → List ℕ) (g : ℕ → A → A) (n : ℕ) (each : Rowwise P row f g n) where
+module _ {S A : Type 0} (P : S → Type 0) (row : S → ℕ → A) (f : ℕ → S → S) (g : ℕ → A → A) (n : ℕ) (each : Rowwise P row f g n) where
   -- rows below the run
-  pub sweep-below : (k i : ℕ) (s : List ℕ) (j : ℕ) → i + k ≤ n → P s → j < i → row (sweep f k i s) j ≡ row s j
+  pub sweep-below : (k i : ℕ) (s : S) (j : ℕ) → i + k ≤ n → P s → j < i → row (sweep f k i s) j ≡ row s j
   unfolding sweep
   sweep-below zero i s j room p l = refl
   sweep-below (suc k) i s j room p l =
@@ -51,7 +50,7 @@ module _ {A : Type 0} (P : List ℕ → Type 0) (row : List ℕ → ℕ → A) (
       ∙ each .other i j s (omega arith) (omega arith) (λ e. omega arith) p
 
   -- rows of the run
-  pub sweep-row : (k i : ℕ) (s : List ℕ) (j : ℕ) → i + k ≤ n → P s → i ≤ j → j < i + k → row (sweep f k i s) j ≡ g j (row s j)
+  pub sweep-row : (k i : ℕ) (s : S) (j : ℕ) → i + k ≤ n → P s → i ≤ j → j < i + k → row (sweep f k i s) j ≡ g j (row s j)
   unfolding sweep
   sweep-row zero i s j room p l m = absurd (omega arith)
   sweep-row (suc k) i s j room p l m =

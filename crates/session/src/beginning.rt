@@ -13,7 +13,7 @@ ghost use Prim.Native.Nat.{_≤_, _<_};
 ghost use lib.ListN.{length};
 ghost use Rattle.metadata.specs.Struct.{meaning, tapesOf};
 ghost use Rattle.layout.specs.Session.{sessionBytes};
-ghost use Rattle.session.specs.Begin.{ended, cleared, listed, listedFrom, beginSession};
+ghost use Rattle.session.specs.Begin.{ended, cleared, listed, beginSession};
 
 // No session from now on; whatever else stands in the area is left.
 pub fn end(session: &mut [u8])
