@@ -4,3 +4,4 @@ pub mod Disk
 pub mod DiskLaws
 pub mod Session
 pub mod SessionLaws
+pub mod Unique
