@@ -1,0 +1,13 @@
+pub mod Tracking
+pub mod TrackingLaws
+pub mod Removal
+pub mod RemovalLaws
+pub mod Writing
+pub mod WritingWays
+pub mod WritingLaws
+pub mod Reading
+pub mod ReadingWays
+pub mod ReadingLaws
+pub mod Room
+pub mod RoomWays
+pub mod Files
