@@ -1,0 +1,108 @@
+use mathlib.Core.Path.{sym, ap, _∙_}
+use mathlib.Core.List.{List}
+use Prim.Native.Nat.{ℕ, _*_, _≤_}
+use native.Mathlib.Omega.{arith}
+use Rattle.components.specs.BoundsLaws.{upTo-true}
+use Rattle.answers.specs.declared.Answer.the-variants.{Done}
+use Rattle.beginning.specs.Transactions.{after}
+use Rattle.staging.specs.Ways.{entry-some, shift-absent, shift-past, shift-served}
+use borrow.Author.Needs.{needs}
+use Rattle.staging.proofs.shifting.shift_on.Statement.{statement}
+use Rattle.staging.proofs.shifting.shift_on.Tie as tie
+use Rattle.staging.proofs.shifting.shift_on.Reads as reads
+use Rattle.staging.proofs.shifting.shift_on.Lts as lts
+use Rattle.components.proofs.up_to.Reads as up-to-reads
+use Rattle.session.proofs.get_handle.Reads as get-handle-reads
+use Rattle.staging.proofs.seeing.seen_by.Reads as seen-by-reads
+use Rattle.staging.proofs.shifting.put_start.Reads as put-start-reads
+
+-- src/shifting.rt:41:9
+seen-by-requires : tie.Need-seen-by-requires
+seen-by-requires c κs = search needs
+
+-- src/shifting.rt:43:13
+get-handle-requires : tie.Need-get-handle-requires
+get-handle-requires c κs = search needs
+
+-- src/shifting.rt:45:12
+up-to-requires : tie.Need-up-to-requires
+up-to-requires c κs =
+    let get-handle = c .get-handle in
+    let args = c .before .before .before .before .before .before .args in
+    let pre = c .before .before .before .before .before .before .pre in
+    rw (get-handle .ensures) (entry-some (args .session .now) (args .tape) (pre .0) (pre .1 .0) (pre .1 .1))
+
+-- src/shifting.rt:46:38
+mul-put-start : tie.Need-mul-put-start
+mul-put-start c =
+    let if2 = c .before .if2 in
+    let up-to = c .before .before .up-to in
+    let get-handle = c .before .before .before .get-handle in
+    let seen-by = c .before .before .before .before .before .before .seen-by in
+    let args = c .before .before .before .before .before .before .before .before .before .args in
+    let within : args .index * get-handle .result .entry ≤ seen-by .result .len = upTo-true (get-handle .result .entry) (args .index) (seen-by .result .len) (sym (up-to .ensures) ∙ if2 .taken) in
+    omega arith
+
+-- src/shifting.rt:46:13
+put-start-requires : tie.Need-put-start-requires
+put-start-requires c κs = search needs
+
+-- src/shifting.rt:47:13
+same-length : tie.Need-same-length
+same-length c = search needs
+
+-- src/shifting.rt:47:13
+returns : tie.Need-returns
+returns c =
+    let put-start = c .before .before .put-start in
+    let if2 = c .before .before .before .before .if2 in
+    let up-to = c .before .before .before .before .before .up-to in
+    let get-handle = c .before .before .before .before .before .before .get-handle in
+    let if1 = c .before .before .before .before .before .before .before .before .if1 in
+    let seen-by = c .before .before .before .before .before .before .before .before .before .seen-by in
+    let args = c .before .before .before .before .before .before .before .before .before .before .before .before .args in
+    shift-served (args .session .now) (args .tape) (args .index) (seen-by .result) (seen-by .ensures) (get-handle .result) (get-handle .ensures) (if1 .taken) (sym (up-to .ensures) ∙ if2 .taken)
+    ∙ ap (λ (t : List ℕ). after (Done 0) t) (sym (put-start .ensures))
+
+-- src/shifting.rt:49:9
+same-length-2 : tie.Need-same-length-2
+same-length-2 c = search needs
+
+-- src/shifting.rt:49:9
+returns-2 : tie.Need-returns-2
+returns-2 c =
+    let if2 = c .if2 in
+    let up-to = c .before .up-to in
+    let get-handle = c .before .before .get-handle in
+    let if1 = c .before .before .before .before .if1 in
+    let seen-by = c .before .before .before .before .before .seen-by in
+    let args = c .before .before .before .before .before .before .before .before .args in
+    shift-past (args .session .now) (args .tape) (args .index) (seen-by .result) (seen-by .ensures) (get-handle .result) (get-handle .ensures) (if1 .taken) (sym (up-to .ensures) ∙ if2 .left)
+
+-- src/shifting.rt:37:1
+same-length-3 : tie.Need-same-length-3
+same-length-3 c = search needs
+
+-- src/shifting.rt:37:1
+returns-3 : tie.Need-returns-3
+returns-3 c =
+    let if1 = c .if1 in
+    let seen-by = c .before .seen-by in
+    let args = c .before .before .before .before .args in
+    shift-absent (args .session .now) (args .tape) (args .index) (seen-by .result) (seen-by .ensures) (if1 .left)
+
+pub shift-on-spec : {M : Type 1} → statement M
+shift-on-spec =
+    tie.close
+    (tie.spec
+    seen-by-requires
+    get-handle-requires
+    up-to-requires
+    mul-put-start
+    put-start-requires
+    same-length
+    returns
+    same-length-2
+    returns-2
+    same-length-3
+    returns-3)
