@@ -1,3 +1,4 @@
+-- `cut_on` is `cutOn`; an index that is not past the length has a product that fits. Assumes nothing.
 use mathlib.Core.Path.{sym, ap, _∙_}
 use mathlib.Core.List.{List}
 use Prim.Native.Nat.{ℕ, _*_, _≤_}
@@ -9,22 +10,13 @@ use Rattle.staging.specs.Ways.{entry-some, cut-absent, cut-longer, cut-s
 use borrow.Author.Needs.{needs}
 use Rattle.staging.proofs.cutting.cut_on.Statement.{statement}
 use Rattle.staging.proofs.cutting.cut_on.Tie as tie
-use Rattle.staging.proofs.cutting.cut_on.Reads as reads
-use Rattle.staging.proofs.cutting.cut_on.Lts as lts
-use Rattle.components.proofs.up_to.Reads as up-to-reads
-use Rattle.session.proofs.get_handle.Reads as get-handle-reads
-use Rattle.staging.proofs.cutting.put_len.Reads as put-len-reads
-use Rattle.staging.proofs.seeing.seen_by.Reads as seen-by-reads
 
--- src/cutting.rt:40:9
 seen-by-requires : tie.Need-seen-by-requires
 seen-by-requires c κs = search needs
 
--- src/cutting.rt:42:13
 get-handle-requires : tie.Need-get-handle-requires
 get-handle-requires c κs = search needs
 
--- src/cutting.rt:44:12
 up-to-requires : tie.Need-up-to-requires
 up-to-requires c κs =
     let get-handle = c .get-handle in
@@ -32,7 +24,6 @@ up-to-requires c κs =
     let pre = c .before .before .before .before .before .before .pre in
     rw (get-handle .ensures) (entry-some (args .session .now) (args .tape) (pre .0) (pre .1 .0) (pre .1 .1))
 
--- src/cutting.rt:45:36
 mul-put-len : tie.Need-mul-put-len
 mul-put-len c =
     let if2 = c .before .if2 in
@@ -43,15 +34,12 @@ mul-put-len c =
     let within : args .index * get-handle .result .entry ≤ seen-by .result .len = upTo-true (get-handle .result .entry) (args .index) (seen-by .result .len) (sym (up-to .ensures) ∙ if2 .taken) in
     omega arith
 
--- src/cutting.rt:45:13
 put-len-requires : tie.Need-put-len-requires
 put-len-requires c κs = search needs
 
--- src/cutting.rt:46:13
 same-length : tie.Need-same-length
 same-length c = search needs
 
--- src/cutting.rt:46:13
 returns : tie.Need-returns
 returns c =
     let put-len = c .before .before .put-len in
@@ -64,11 +52,9 @@ returns c =
     cut-served (args .session .now) (args .tape) (args .index) (seen-by .result) (seen-by .ensures) (get-handle .result) (get-handle .ensures) (if1 .taken) (sym (up-to .ensures) ∙ if2 .taken)
     ∙ ap (λ (t : List ℕ). after (Done 0) t) (sym (put-len .ensures))
 
--- src/cutting.rt:48:9
 same-length-2 : tie.Need-same-length-2
 same-length-2 c = search needs
 
--- src/cutting.rt:48:9
 returns-2 : tie.Need-returns-2
 returns-2 c =
     let if2 = c .if2 in
@@ -79,11 +65,9 @@ returns-2 c =
     let args = c .before .before .before .before .before .before .before .before .args in
     cut-longer (args .session .now) (args .tape) (args .index) (seen-by .result) (seen-by .ensures) (get-handle .result) (get-handle .ensures) (if1 .taken) (sym (up-to .ensures) ∙ if2 .left)
 
--- src/cutting.rt:36:1
 same-length-3 : tie.Need-same-length-3
 same-length-3 c = search needs
 
--- src/cutting.rt:36:1
 returns-3 : tie.Need-returns-3
 returns-3 c =
     let if1 = c .if1 in

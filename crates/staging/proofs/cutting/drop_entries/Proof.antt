@@ -1,3 +1,4 @@
+-- `drop_entries` is `dropCall`: each way out is its law, and what was found lets `drop_on` be called. Assumes nothing.
 use mathlib.Core.Path.{_≡_, sym, _∙_}
 use mathlib.Core.Bool.{true}
 use Rattle.octets.specs.declared.Found.the-variants.{At}
@@ -9,18 +10,10 @@ use Rattle.staging.specs.Ways.{handle-found, drop-unusable, drop-no-trun
 use borrow.Author.Needs.{needs}
 use Rattle.staging.proofs.cutting.drop_entries.Statement.{statement}
 use Rattle.staging.proofs.cutting.drop_entries.Tie as tie
-use Rattle.staging.proofs.cutting.drop_entries.Reads as reads
-use Rattle.staging.proofs.cutting.drop_entries.Lts as lts
-use Rattle.beginning.proofs.is_usable.Reads as is-usable-reads
-use Rattle.session.proofs.find_handle.Reads as find-handle-reads
-use Rattle.staging.proofs.cutting.drop_on.Reads as drop-on-reads
-use Rattle.staging.proofs.seeing.is_cutting.Reads as is-cutting-reads
 
--- src/cutting.rt:88:8
 is-usable-requires : tie.Need-is-usable-requires
 is-usable-requires c κs = search needs
 
--- src/cutting.rt:89:12
 is-cutting-requires : tie.Need-is-cutting-requires
 is-cutting-requires c κs =
     let if1 = c .before .if1 in
@@ -30,7 +23,6 @@ is-cutting-requires c κs =
     let begun = usable-begun (args .disk .now) (args .session .now) ok in
     begun .long
 
--- src/cutting.rt:90:35
 find-handle-requires : tie.Need-find-handle-requires
 find-handle-requires c κs =
     let if1 = c .before .before .before .before .if1 in
@@ -40,19 +32,15 @@ find-handle-requires c κs =
     let begun = usable-begun (args .disk .now) (args .session .now) ok in
     begun .long
 
--- src/cutting.rt:90:27
 enum-known-tape : tie.Need-enum-known-tape
 enum-known-tape c = search needs
 
--- src/cutting.rt:91:40
 enum-told : tie.Need-enum-told
 enum-told c = search needs
 
--- src/cutting.rt:91:17
 same-length : tie.Need-same-length
 same-length c = search needs
 
--- src/cutting.rt:91:17
 returns : tie.Need-returns
 returns c =
     let enum-told = c .enum-told in
@@ -66,7 +54,6 @@ returns c =
     let there : cuts (args .session .now) (args .transaction) ≡ true = sym (is-cutting .ensures) ∙ if2 .taken in
     drop-no-handle (args .disk .now) (args .session .now) (args .transaction) (args .handle) (args .count) ok there (sym (find-handle .ensures) ∙ enum-told .given .1)
 
--- src/cutting.rt:93:13
 drop-on-requires : tie.Need-drop-on-requires
 drop-on-requires c κs =
     let tape = c .before .before .tape in
@@ -80,11 +67,9 @@ drop-on-requires c κs =
     let row = handle-found (args .session .now) (args .handle) (tape .given .0 .0) held in
     (begun, (row .low, row .held))
 
--- src/cutting.rt:93:13
 same-length-2 : tie.Need-same-length-2
 same-length-2 c = search needs
 
--- src/cutting.rt:93:13
 returns-2 : tie.Need-returns-2
 returns-2 c =
     let drop-on = c .before .before .drop-on in
@@ -100,11 +85,9 @@ returns-2 c =
     let held : findHandle (args .session .now) (args .handle) ≡ At (tape .given .0 .0) = sym (find-handle .ensures) ∙ tape .given .1 in
     drop-goes (args .disk .now) (args .session .now) (args .transaction) (args .handle) (args .count) ok there (tape .given .0 .0) held ∙ drop-on .ensures
 
--- src/cutting.rt:95:9
 same-length-3 : tie.Need-same-length-3
 same-length-3 c = search needs
 
--- src/cutting.rt:95:9
 returns-3 : tie.Need-returns-3
 returns-3 c =
     let if2 = c .if2 in
@@ -115,11 +98,9 @@ returns-3 c =
     let ok : usable (args .disk .now) (args .session .now) ≡ true = sym (is-usable .ensures) ∙ if1 .taken in
     drop-no-truncate (args .disk .now) (args .session .now) (args .transaction) (args .handle) (args .count) ok (sym (is-cutting .ensures) ∙ if2 .left)
 
--- src/cutting.rt:85:1
 same-length-4 : tie.Need-same-length-4
 same-length-4 c = search needs
 
--- src/cutting.rt:85:1
 returns-4 : tie.Need-returns-4
 returns-4 c =
     let if1 = c .if1 in

@@ -1,3 +1,4 @@
+-- `drop_on` is `dropOn`: a difference that stops at 0. Assumes nothing.
 use mathlib.Core.Path.{_∙_}
 use Prim.Native.Nat.{_<_}
 use native.Mathlib.Omega.{arith}
@@ -5,21 +6,13 @@ use Rattle.staging.specs.Ways.{entry-some, drop-all, drop-some}
 use borrow.Author.Needs.{needs}
 use Rattle.staging.proofs.cutting.drop_on.Statement.{statement}
 use Rattle.staging.proofs.cutting.drop_on.Tie as tie
-use Rattle.staging.proofs.cutting.drop_on.Reads as reads
-use Rattle.staging.proofs.cutting.drop_on.Lts as lts
-use Rattle.session.proofs.get_handle.Reads as get-handle-reads
-use Rattle.staging.proofs.cutting.cut_on.Reads as cut-on-reads
-use Rattle.staging.proofs.seeing.seen_by.Reads as seen-by-reads
 
--- src/cutting.rt:58:9
 seen-by-requires : tie.Need-seen-by-requires
 seen-by-requires c κs = search needs
 
--- src/cutting.rt:59:9
 get-handle-requires : tie.Need-get-handle-requires
 get-handle-requires c κs = search needs
 
--- src/cutting.rt:61:19
 div-entries : tie.Need-div-entries
 div-entries c =
     let get-handle = c .before .get-handle in
@@ -28,15 +21,12 @@ div-entries c =
     let here : 0 < get-handle .result .entry = rw (get-handle .ensures) (entry-some (args .session .now) (args .tape) (pre .0) (pre .1 .0) (pre .1 .1)) in
     omega arith
 
--- src/cutting.rt:63:9
 cut-on-requires : tie.Need-cut-on-requires
 cut-on-requires c κs = search needs
 
--- src/cutting.rt:63:9
 same-length : tie.Need-same-length
 same-length c = search needs
 
--- src/cutting.rt:63:9
 returns : tie.Need-returns
 returns c =
     let cut-on = c .before .before .cut-on in
@@ -46,15 +36,12 @@ returns c =
     let args = c .before .before .before .before .before .before .before .before .before .before .before .args in
     drop-all (args .session .now) (args .tape) (args .count) (seen-by .result) (seen-by .ensures) (get-handle .result) (get-handle .ensures) (if1 .taken) ∙ cut-on .ensures
 
--- src/cutting.rt:65:5
 cut-on-requires-2 : tie.Need-cut-on-requires-2
 cut-on-requires-2 c κs = search needs
 
--- src/cutting.rt:54:1
 same-length-2 : tie.Need-same-length-2
 same-length-2 c = search needs
 
--- src/cutting.rt:54:1
 returns-2 : tie.Need-returns-2
 returns-2 c =
     let cut-on2 = c .before .before .cut-on2 in

@@ -1,3 +1,4 @@
+-- `truncate_tape` is `cutCall`: each way out is its law, and what was found lets `cut_on` be called. Assumes nothing.
 use mathlib.Core.Path.{_≡_, sym, _∙_}
 use mathlib.Core.Bool.{true}
 use Rattle.octets.specs.declared.Found.the-variants.{At}
@@ -9,18 +10,10 @@ use Rattle.staging.specs.Ways.{handle-found, cut-unusable, cut-no-trunca
 use borrow.Author.Needs.{needs}
 use Rattle.staging.proofs.cutting.truncate_tape.Statement.{statement}
 use Rattle.staging.proofs.cutting.truncate_tape.Tie as tie
-use Rattle.staging.proofs.cutting.truncate_tape.Reads as reads
-use Rattle.staging.proofs.cutting.truncate_tape.Lts as lts
-use Rattle.beginning.proofs.is_usable.Reads as is-usable-reads
-use Rattle.session.proofs.find_handle.Reads as find-handle-reads
-use Rattle.staging.proofs.cutting.cut_on.Reads as cut-on-reads
-use Rattle.staging.proofs.seeing.is_cutting.Reads as is-cutting-reads
 
--- src/cutting.rt:72:8
 is-usable-requires : tie.Need-is-usable-requires
 is-usable-requires c κs = search needs
 
--- src/cutting.rt:73:12
 is-cutting-requires : tie.Need-is-cutting-requires
 is-cutting-requires c κs =
     let if1 = c .before .if1 in
@@ -30,7 +23,6 @@ is-cutting-requires c κs =
     let begun = usable-begun (args .disk .now) (args .session .now) ok in
     begun .long
 
--- src/cutting.rt:74:35
 find-handle-requires : tie.Need-find-handle-requires
 find-handle-requires c κs =
     let if1 = c .before .before .before .before .if1 in
@@ -40,19 +32,15 @@ find-handle-requires c κs =
     let begun = usable-begun (args .disk .now) (args .session .now) ok in
     begun .long
 
--- src/cutting.rt:74:27
 enum-known-tape : tie.Need-enum-known-tape
 enum-known-tape c = search needs
 
--- src/cutting.rt:75:40
 enum-told : tie.Need-enum-told
 enum-told c = search needs
 
--- src/cutting.rt:75:17
 same-length : tie.Need-same-length
 same-length c = search needs
 
--- src/cutting.rt:75:17
 returns : tie.Need-returns
 returns c =
     let enum-told = c .enum-told in
@@ -66,7 +54,6 @@ returns c =
     let there : cuts (args .session .now) (args .transaction) ≡ true = sym (is-cutting .ensures) ∙ if2 .taken in
     cut-no-handle (args .disk .now) (args .session .now) (args .transaction) (args .handle) (args .len) ok there (sym (find-handle .ensures) ∙ enum-told .given .1)
 
--- src/cutting.rt:77:13
 cut-on-requires : tie.Need-cut-on-requires
 cut-on-requires c κs =
     let tape = c .before .before .tape in
@@ -80,11 +67,9 @@ cut-on-requires c κs =
     let row = handle-found (args .session .now) (args .handle) (tape .given .0 .0) held in
     (begun, (row .low, row .held))
 
--- src/cutting.rt:77:13
 same-length-2 : tie.Need-same-length-2
 same-length-2 c = search needs
 
--- src/cutting.rt:77:13
 returns-2 : tie.Need-returns-2
 returns-2 c =
     let cut-on = c .before .before .cut-on in
@@ -100,11 +85,9 @@ returns-2 c =
     let held : findHandle (args .session .now) (args .handle) ≡ At (tape .given .0 .0) = sym (find-handle .ensures) ∙ tape .given .1 in
     cut-goes (args .disk .now) (args .session .now) (args .transaction) (args .handle) (args .len) ok there (tape .given .0 .0) held ∙ cut-on .ensures
 
--- src/cutting.rt:79:9
 same-length-3 : tie.Need-same-length-3
 same-length-3 c = search needs
 
--- src/cutting.rt:79:9
 returns-3 : tie.Need-returns-3
 returns-3 c =
     let if2 = c .if2 in
@@ -115,11 +98,9 @@ returns-3 c =
     let ok : usable (args .disk .now) (args .session .now) ≡ true = sym (is-usable .ensures) ∙ if1 .taken in
     cut-no-truncate (args .disk .now) (args .session .now) (args .transaction) (args .handle) (args .len) ok (sym (is-cutting .ensures) ∙ if2 .left)
 
--- src/cutting.rt:69:1
 same-length-4 : tie.Need-same-length-4
 same-length-4 c = search needs
 
--- src/cutting.rt:69:1
 returns-4 : tie.Need-returns-4
 returns-4 c =
     let if1 = c .if1 in

@@ -1,3 +1,4 @@
+-- `in_entries` divides by the handle's entry size, which the layout rule keeps above 0. Assumes nothing.
 use mathlib.Core.Path.{ap}
 use Prim.Native.Nat.{_/_, _<_}
 use native.Mathlib.Omega.{arith}
@@ -7,15 +8,10 @@ use Rattle.staging.specs.Ways.{entry-some}
 use borrow.Author.Needs.{needs}
 use Rattle.staging.proofs.seeing.in_entries.Statement.{statement}
 use Rattle.staging.proofs.seeing.in_entries.Tie as tie
-use Rattle.staging.proofs.seeing.in_entries.Reads as reads
-use Rattle.staging.proofs.seeing.in_entries.Lts as lts
-use Rattle.session.proofs.get_handle.Reads as get-handle-reads
 
--- src/seeing.rt:106:9
 get-handle-requires : tie.Need-get-handle-requires
 get-handle-requires c κs = search needs
 
--- src/seeing.rt:108:5
 div-result : tie.Need-div-result
 div-result c =
     let get-handle = c .get-handle in
@@ -25,7 +21,6 @@ div-result c =
     let here : 0 < get-handle .result .entry = rw (get-handle .ensures) some in
     omega arith
 
--- src/seeing.rt:102:1
 returns : tie.Need-returns
 returns c =
     let get-handle = c .get-handle in

@@ -1,22 +1,16 @@
+-- `is_cutting` is `cuts`: the number counts only where the writer's place holds a truncate. Assumes nothing.
 use mathlib.Core.Path.{sym, _∙_}
 use Rattle.staging.specs.Ways.{cuts-not, cuts-number}
 use borrow.Author.Needs.{needs}
 use Rattle.staging.proofs.seeing.is_cutting.Statement.{statement}
 use Rattle.staging.proofs.seeing.is_cutting.Tie as tie
-use Rattle.staging.proofs.seeing.is_cutting.Reads as reads
-use Rattle.staging.proofs.seeing.is_cutting.Lts as lts
-use Rattle.session.proofs.get_transaction.Reads as get-transaction-reads
-use Rattle.staging.proofs.seeing.is_truncate.Reads as is-truncate-reads
 
--- src/seeing.rt:93:9
 get-transaction-requires : tie.Need-get-transaction-requires
 get-transaction-requires c κs = search needs
 
--- src/seeing.rt:95:8
 is-truncate-requires : tie.Need-is-truncate-requires
 is-truncate-requires c κs = search needs
 
--- src/seeing.rt:96:9
 returns : tie.Need-returns
 returns c =
     let if1 = c .before .if1 in
@@ -25,7 +19,6 @@ returns c =
     let args = c .before .before .before .before .before .args in
     sym (cuts-number (args .session .now) (args .transaction) (get-transaction .result) (get-transaction .ensures) (sym (is-truncate .ensures) ∙ if1 .taken))
 
--- src/seeing.rt:89:1
 returns-2 : tie.Need-returns-2
 returns-2 c =
     let if1 = c .if1 in

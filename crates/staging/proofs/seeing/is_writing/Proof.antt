@@ -1,22 +1,16 @@
+-- `is_writing` is `writes`: the number counts only where the writer's place holds an append. Assumes nothing.
 use mathlib.Core.Path.{sym, _∙_}
 use Rattle.staging.specs.Ways.{writes-not, writes-number}
 use borrow.Author.Needs.{needs}
 use Rattle.staging.proofs.seeing.is_writing.Statement.{statement}
 use Rattle.staging.proofs.seeing.is_writing.Tie as tie
-use Rattle.staging.proofs.seeing.is_writing.Reads as reads
-use Rattle.staging.proofs.seeing.is_writing.Lts as lts
-use Rattle.session.proofs.get_transaction.Reads as get-transaction-reads
-use Rattle.staging.proofs.seeing.is_append.Reads as is-append-reads
 
--- src/seeing.rt:80:9
 get-transaction-requires : tie.Need-get-transaction-requires
 get-transaction-requires c κs = search needs
 
--- src/seeing.rt:82:8
 is-append-requires : tie.Need-is-append-requires
 is-append-requires c κs = search needs
 
--- src/seeing.rt:83:9
 returns : tie.Need-returns
 returns c =
     let if1 = c .before .if1 in
@@ -25,7 +19,6 @@ returns c =
     let args = c .before .before .before .before .before .args in
     sym (writes-number (args .session .now) (args .transaction) (get-transaction .result) (get-transaction .ensures) (sym (is-append .ensures) ∙ if1 .taken))
 
--- src/seeing.rt:76:1
 returns-2 : tie.Need-returns-2
 returns-2 c =
     let if1 = c .if1 in

@@ -1,23 +1,17 @@
+-- `len_on` is `lenOn`, by whether the tape is listed. Assumes nothing.
 use mathlib.Core.Path.{sym, ap, _∙_}
 use Rattle.staging.specs.Ways.{len-absent, len-listed}
 use Rattle.answers.specs.declared.Answer.the-variants.{Done}
 use borrow.Author.Needs.{needs}
 use Rattle.staging.proofs.seeing.len_on.Statement.{statement}
 use Rattle.staging.proofs.seeing.len_on.Tie as tie
-use Rattle.staging.proofs.seeing.len_on.Reads as reads
-use Rattle.staging.proofs.seeing.len_on.Lts as lts
-use Rattle.staging.proofs.seeing.in_entries.Reads as in-entries-reads
-use Rattle.staging.proofs.seeing.seen_by.Reads as seen-by-reads
 
--- src/seeing.rt:115:9
 seen-by-requires : tie.Need-seen-by-requires
 seen-by-requires c κs = search needs
 
--- src/seeing.rt:117:29
 in-entries-requires : tie.Need-in-entries-requires
 in-entries-requires c κs = search needs
 
--- src/seeing.rt:117:9
 returns : tie.Need-returns
 returns c =
     let in-entries = c .in-entries in
@@ -26,7 +20,6 @@ returns c =
     let args = c .before .before .before .before .args in
     ap Done (in-entries .ensures) ∙ sym (len-listed (args .session .now) (args .place) (args .tape) (seen-by .result) (seen-by .ensures) (if1 .taken))
 
--- src/seeing.rt:111:1
 returns-2 : tie.Need-returns-2
 returns-2 c =
     let if1 = c .if1 in

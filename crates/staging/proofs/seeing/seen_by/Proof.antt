@@ -1,19 +1,14 @@
+-- `seen_by` is `seenBy`: the staged bounds for the writer of a touched tape, else the view. Assumes nothing.
 use mathlib.Core.Path.{_∙_}
 use mathlib.Core.Logic.{⊎-elim}
 use Rattle.staging.specs.Ways.{seen-staged, seen-untouched, seen-view}
 use borrow.Author.Needs.{needs}
 use Rattle.staging.proofs.seeing.seen_by.Statement.{statement}
 use Rattle.staging.proofs.seeing.seen_by.Tie as tie
-use Rattle.staging.proofs.seeing.seen_by.Reads as reads
-use Rattle.staging.proofs.seeing.seen_by.Lts as lts
-use Rattle.session.proofs.get_staged.Reads as get-staged-reads
-use Rattle.session.proofs.get_view.Reads as get-view-reads
 
--- src/seeing.rt:21:9
 get-staged-requires : tie.Need-get-staged-requires
 get-staged-requires c κs = search needs
 
--- src/seeing.rt:24:13
 returns : tie.Need-returns
 returns c =
     let if2 = c .if2 in
@@ -22,11 +17,9 @@ returns c =
     let args = c .before .before .before .before .args in
     seen-staged (args .session .now) (args .tape) (get-staged .result) (get-staged .ensures) (args .place) (if1 .taken) (if2 .taken)
 
--- src/seeing.rt:31:5
 get-view-requires : tie.Need-get-view-requires
 get-view-requires c κs = search needs
 
--- src/seeing.rt:17:1
 returns-2 : tie.Need-returns-2
 returns-2 c =
     let get-view = c .get-view in

@@ -1,3 +1,4 @@
+-- `tape_len` is `lenCall`: each way out is its law, and what was found lets `len_on` be called. Assumes nothing.
 use mathlib.Core.Path.{_≡_, sym, _∙_}
 use mathlib.Core.Bool.{true}
 use Rattle.octets.specs.declared.Found.the-variants.{At}
@@ -8,18 +9,10 @@ use Rattle.staging.specs.Ways.{handle-found, transaction-low, len-unusab
 use borrow.Author.Needs.{needs}
 use Rattle.staging.proofs.seeing.tape_len.Statement.{statement}
 use Rattle.staging.proofs.seeing.tape_len.Tie as tie
-use Rattle.staging.proofs.seeing.tape_len.Reads as reads
-use Rattle.staging.proofs.seeing.tape_len.Lts as lts
-use Rattle.beginning.proofs.is_usable.Reads as is-usable-reads
-use Rattle.session.proofs.find_handle.Reads as find-handle-reads
-use Rattle.session.proofs.find_transaction.Reads as find-transaction-reads
-use Rattle.staging.proofs.seeing.len_on.Reads as len-on-reads
 
--- src/seeing.rt:137:8
 is-usable-requires : tie.Need-is-usable-requires
 is-usable-requires c κs = search needs
 
--- src/seeing.rt:138:32
 find-transaction-requires : tie.Need-find-transaction-requires
 find-transaction-requires c κs =
     let if1 = c .if1 in
@@ -29,15 +22,12 @@ find-transaction-requires c κs =
     let begun = usable-begun (args .disk .now) (args .session .now) ok in
     begun .long
 
--- src/seeing.rt:138:23
 enum-known-place : tie.Need-enum-known-place
 enum-known-place c = search needs
 
--- src/seeing.rt:139:36
 enum-told : tie.Need-enum-told
 enum-told c = search needs
 
--- src/seeing.rt:139:13
 returns : tie.Need-returns
 returns c =
     let enum-told = c .enum-told in
@@ -48,7 +38,6 @@ returns c =
     let ok : usable (args .disk .now) (args .session .now) ≡ true = sym (is-usable .ensures) ∙ if1 .taken in
     sym (len-no-transaction (args .disk .now) (args .session .now) (args .transaction) (args .handle) ok (sym (find-transaction .ensures) ∙ enum-told .given .1))
 
--- src/seeing.rt:141:31
 find-handle-requires : tie.Need-find-handle-requires
 find-handle-requires c κs =
     let if1 = c .before .before .before .before .if1 in
@@ -58,15 +47,12 @@ find-handle-requires c κs =
     let begun = usable-begun (args .disk .now) (args .session .now) ok in
     begun .long
 
--- src/seeing.rt:141:23
 enum-known-tape : tie.Need-enum-known-tape
 enum-known-tape c = search needs
 
--- src/seeing.rt:142:36
 enum-told-2 : tie.Need-enum-told-2
 enum-told-2 c = search needs
 
--- src/seeing.rt:142:13
 returns-2 : tie.Need-returns-2
 returns-2 c =
     let enum-told2 = c .enum-told2 in
@@ -80,7 +66,6 @@ returns-2 c =
     let there : findTransaction (args .session .now) (args .transaction) ≡ At (place .given .0 .0) = sym (find-transaction .ensures) ∙ place .given .1 in
     sym (len-no-handle (args .disk .now) (args .session .now) (args .transaction) (args .handle) ok (place .given .0 .0) there (sym (find-handle .ensures) ∙ enum-told2 .given .1))
 
--- src/seeing.rt:144:9
 len-on-requires : tie.Need-len-on-requires
 len-on-requires c κs =
     let tape = c .before .tape in
@@ -97,7 +82,6 @@ len-on-requires c κs =
     let row = handle-found (args .session .now) (args .handle) (tape .given .0 .0) held in
     ((begun, transaction-low (args .session .now) (args .transaction) (place .given .0 .0) there), (row .low, row .held))
 
--- src/seeing.rt:144:9
 returns-3 : tie.Need-returns-3
 returns-3 c =
     let len-on = c .len-on in
@@ -113,7 +97,6 @@ returns-3 c =
     let held : findHandle (args .session .now) (args .handle) ≡ At (tape .given .0 .0) = sym (find-handle .ensures) ∙ tape .given .1 in
     len-on .ensures ∙ sym (len-goes (args .disk .now) (args .session .now) (args .transaction) (args .handle) ok (place .given .0 .0) there (tape .given .0 .0) held)
 
--- src/seeing.rt:134:1
 returns-4 : tie.Need-returns-4
 returns-4 c =
     let if1 = c .if1 in

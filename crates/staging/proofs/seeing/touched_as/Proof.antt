@@ -1,17 +1,12 @@
+-- `touched_as` is `touchedAs`: what was staged before, or the writer's view. Assumes nothing.
 use Rattle.staging.specs.Ways.{touched-before, touched-now}
 use borrow.Author.Needs.{needs}
 use Rattle.staging.proofs.seeing.touched_as.Statement.{statement}
 use Rattle.staging.proofs.seeing.touched_as.Tie as tie
-use Rattle.staging.proofs.seeing.touched_as.Reads as reads
-use Rattle.staging.proofs.seeing.touched_as.Lts as lts
-use Rattle.session.proofs.get_staged.Reads as get-staged-reads
-use Rattle.session.proofs.get_view.Reads as get-view-reads
 
--- src/seeing.rt:39:9
 get-staged-requires : tie.Need-get-staged-requires
 get-staged-requires c κs = search needs
 
--- src/seeing.rt:41:9
 returns : tie.Need-returns
 returns c =
     let if1 = c .if1 in
@@ -19,11 +14,9 @@ returns c =
     let args = c .before .before .before .args in
     touched-before (args .session .now) (args .tape) (get-staged .result) (get-staged .ensures) (if1 .taken)
 
--- src/seeing.rt:43:9
 get-view-requires : tie.Need-get-view-requires
 get-view-requires c κs = search needs
 
--- src/seeing.rt:35:1
 returns-2 : tie.Need-returns-2
 returns-2 c =
     let get-view = c .get-view in

@@ -1,3 +1,4 @@
+-- `put_start` stages the record of `shifted`: the larger start is `max`. Assumes nothing.
 use mathlib.Core.Path.{ap, _∙_}
 use Prim.Native.Nat.{ℕ}
 use Rattle.session.specs.Rows.{putStaged}
@@ -6,29 +7,19 @@ use Rattle.staging.specs.Ways.{shift-staged}
 use borrow.Author.Needs.{needs}
 use Rattle.staging.proofs.shifting.put_start.Statement.{statement}
 use Rattle.staging.proofs.shifting.put_start.Tie as tie
-use Rattle.staging.proofs.shifting.put_start.Reads as reads
-use Rattle.staging.proofs.shifting.put_start.Lts as lts
-use Rattle.octets.proofs.larger.Reads as larger-reads
-use Rattle.session.proofs.put_staged.Reads as put-staged-reads
-use Rattle.staging.proofs.seeing.touched_as.Reads as touched-as-reads
 
--- src/shifting.rt:22:9
 touched-as-requires : tie.Need-touched-as-requires
 touched-as-requires c κs = search needs
 
--- src/shifting.rt:23:18
 larger-requires : tie.Need-larger-requires
 larger-requires c κs = search needs
 
--- src/shifting.rt:24:5
 put-staged-requires : tie.Need-put-staged-requires
 put-staged-requires c κs = search needs
 
--- src/shifting.rt:18:1
 same-length : tie.Need-same-length
 same-length c = search needs
 
--- src/shifting.rt:18:1
 returns : tie.Need-returns
 returns c =
     let put-staged = c .before .before .put-staged in

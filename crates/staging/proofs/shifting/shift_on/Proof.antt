@@ -1,3 +1,4 @@
+-- `shift_on` is `shiftOn`; an index that is not past the length has a product that fits. Assumes nothing.
 use mathlib.Core.Path.{sym, ap, _∙_}
 use mathlib.Core.List.{List}
 use Prim.Native.Nat.{ℕ, _*_, _≤_}
@@ -9,22 +10,13 @@ use Rattle.staging.specs.Ways.{entry-some, shift-absent, shift-past, shi
 use borrow.Author.Needs.{needs}
 use Rattle.staging.proofs.shifting.shift_on.Statement.{statement}
 use Rattle.staging.proofs.shifting.shift_on.Tie as tie
-use Rattle.staging.proofs.shifting.shift_on.Reads as reads
-use Rattle.staging.proofs.shifting.shift_on.Lts as lts
-use Rattle.components.proofs.up_to.Reads as up-to-reads
-use Rattle.session.proofs.get_handle.Reads as get-handle-reads
-use Rattle.staging.proofs.seeing.seen_by.Reads as seen-by-reads
-use Rattle.staging.proofs.shifting.put_start.Reads as put-start-reads
 
--- src/shifting.rt:41:9
 seen-by-requires : tie.Need-seen-by-requires
 seen-by-requires c κs = search needs
 
--- src/shifting.rt:43:13
 get-handle-requires : tie.Need-get-handle-requires
 get-handle-requires c κs = search needs
 
--- src/shifting.rt:45:12
 up-to-requires : tie.Need-up-to-requires
 up-to-requires c κs =
     let get-handle = c .get-handle in
@@ -32,7 +24,6 @@ up-to-requires c κs =
     let pre = c .before .before .before .before .before .before .pre in
     rw (get-handle .ensures) (entry-some (args .session .now) (args .tape) (pre .0) (pre .1 .0) (pre .1 .1))
 
--- src/shifting.rt:46:38
 mul-put-start : tie.Need-mul-put-start
 mul-put-start c =
     let if2 = c .before .if2 in
@@ -43,15 +34,12 @@ mul-put-start c =
     let within : args .index * get-handle .result .entry ≤ seen-by .result .len = upTo-true (get-handle .result .entry) (args .index) (seen-by .result .len) (sym (up-to .ensures) ∙ if2 .taken) in
     omega arith
 
--- src/shifting.rt:46:13
 put-start-requires : tie.Need-put-start-requires
 put-start-requires c κs = search needs
 
--- src/shifting.rt:47:13
 same-length : tie.Need-same-length
 same-length c = search needs
 
--- src/shifting.rt:47:13
 returns : tie.Need-returns
 returns c =
     let put-start = c .before .before .put-start in
@@ -64,11 +52,9 @@ returns c =
     shift-served (args .session .now) (args .tape) (args .index) (seen-by .result) (seen-by .ensures) (get-handle .result) (get-handle .ensures) (if1 .taken) (sym (up-to .ensures) ∙ if2 .taken)
     ∙ ap (λ (t : List ℕ). after (Done 0) t) (sym (put-start .ensures))
 
--- src/shifting.rt:49:9
 same-length-2 : tie.Need-same-length-2
 same-length-2 c = search needs
 
--- src/shifting.rt:49:9
 returns-2 : tie.Need-returns-2
 returns-2 c =
     let if2 = c .if2 in
@@ -79,11 +65,9 @@ returns-2 c =
     let args = c .before .before .before .before .before .before .before .before .args in
     shift-past (args .session .now) (args .tape) (args .index) (seen-by .result) (seen-by .ensures) (get-handle .result) (get-handle .ensures) (if1 .taken) (sym (up-to .ensures) ∙ if2 .left)
 
--- src/shifting.rt:37:1
 same-length-3 : tie.Need-same-length-3
 same-length-3 c = search needs
 
--- src/shifting.rt:37:1
 returns-3 : tie.Need-returns-3
 returns-3 c =
     let if1 = c .if1 in
