@@ -7,18 +7,16 @@
 // row that is put is in range. The functions are called on areas that are long enough, those that
 // look at names on areas that keep the rule (`layout::is_begun_session`). Proved, and nothing is
 // assumed.
-mod beginning;
 mod head;
 mod names;
 mod rings;
+mod starting;
 mod tape_rows;
 mod tracking;
 mod transactions;
 mod views;
 mod words;
 
-pub use beginning::begin;
-pub use beginning::end;
 pub use head::Head;
 pub use head::get_head;
 pub use head::put_head;
@@ -28,6 +26,8 @@ pub use names::tape_name;
 pub use rings::fill_ring;
 pub use rings::push_ring;
 pub use rings::ring_part;
+pub use starting::begin;
+pub use starting::end;
 pub use tape_rows::Handle;
 pub use tape_rows::Staged;
 pub use tape_rows::find_handle;

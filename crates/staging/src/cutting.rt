@@ -9,7 +9,7 @@ use octets::Found;
 use session::Staged;
 ghost use mathlib.Core.Path.{_≡_};
 ghost use mathlib.Core.Logic.{_≢_};
-ghost use Prim.Native.Nat.{_*_, _<_};
+ghost use Prim.Native.Nat.{_<_};
 ghost use Rattle.layout.specs.Session.{Begun, handleNumber};
 ghost use Rattle.beginning.specs.Transactions.{after};
 ghost use Rattle.staging.specs.Cutting.{cutTo, cutOn, dropOn, cutCall, dropCall};

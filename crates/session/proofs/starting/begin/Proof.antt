@@ -10,8 +10,8 @@ use Rattle.metadata.specs.Struct.{tapesOf}
 use Rattle.metadata.proofs.Turns.{none, eight}
 use Rattle.session.specs.Begin.{listedFrom, beginSession}
 use Rattle.session.specs.Ways.{listed-turn, listed-end}
-use Rattle.session.proofs.beginning.begin.Statement.{statement}
-use Rattle.session.proofs.beginning.begin.Tie as tie
+use Rattle.session.proofs.starting.begin.Statement.{statement}
+use Rattle.session.proofs.starting.begin.Tie as tie
 
 record Inv (session₀ : List ℕ) (list : TapeList) (count : ℕ) (session : List ℕ) (i : ℕ) : Type 0 where
   pub within : i ≤ count

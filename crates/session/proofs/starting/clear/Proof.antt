@@ -2,8 +2,8 @@
 use mathlib.Core.Path.{_∙_}
 use borrow.Author.Needs.{needs}
 use Rattle.session.specs.Begin.{cleared}
-use Rattle.session.proofs.beginning.clear.Statement.{statement}
-use Rattle.session.proofs.beginning.clear.Tie as tie
+use Rattle.session.proofs.starting.clear.Statement.{statement}
+use Rattle.session.proofs.starting.clear.Tie as tie
 
 fill-zero-requires : tie.Need-fill-zero-requires
 fill-zero-requires c κs = search needs

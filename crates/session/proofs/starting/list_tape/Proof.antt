@@ -7,8 +7,8 @@ use lib.ListN.{length, take, length-take}
 use lib.Seq.{length-take-le}
 use Rattle.session.specs.Begin.{listed}
 use Rattle.session.specs.Ways.{take-min}
-use Rattle.session.proofs.beginning.list_tape.Statement.{statement}
-use Rattle.session.proofs.beginning.list_tape.Tie as tie
+use Rattle.session.proofs.starting.list_tape.Statement.{statement}
+use Rattle.session.proofs.starting.list_tape.Tie as tie
 
 smaller-requires : tie.Need-smaller-requires
 smaller-requires c κs = search needs

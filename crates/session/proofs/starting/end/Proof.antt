@@ -1,8 +1,8 @@
 -- `end` takes the mark away. Assumes nothing.
 use borrow.Author.Needs.{needs}
 use Rattle.session.specs.Begin.{ended}
-use Rattle.session.proofs.beginning.end.Statement.{statement}
-use Rattle.session.proofs.beginning.end.Tie as tie
+use Rattle.session.proofs.starting.end.Statement.{statement}
+use Rattle.session.proofs.starting.end.Tie as tie
 
 put-u64-requires : tie.Need-put-u64-requires
 put-u64-requires c κs = search needs
