@@ -1,9 +1,9 @@
 -- "from the lowest number on, files marked below the oldest other transaction's epoch are removed": a file goes if it is marked below that epoch and so is
--- every tracked file below it. Assumes nothing.
+-- every tracked file up to its number. Assumes nothing.
 use mathlib.Core.Bool.{Bool, cond, not, _&&_}
 use mathlib.Core.List.{List}
 use Prim.Native.Nat.{ℕ}
-use lib.Dec.{ltb}
+use lib.Dec.{leb}
 use Rattle.octets.specs.First.{all}
 use Rattle.octets.specs.Sweep.{sweep}
 use Rattle.layout.specs.Disk.{slots, number}
@@ -21,9 +21,9 @@ abbrev pub areas : List ℕ → List ℕ → Areas
 areas d s = record { disk = d; session = s }
 
 module _ (d s : List ℕ) (place oldest : ℕ) where
-  -- slot i has a tracked file below number n that may not go
+  -- slot i has a tracked file, up to number n, that may not go
   unfoldable pub stops : ℕ → ℕ → Bool
-  stops n i = isOf d place i && (ltb (number d i) n && (isTracked (trackingOf s i) && not (isRipe oldest (trackingOf s i))))
+  stops n i = isOf d place i && (leb (number d i) n && (isTracked (trackingOf s i) && not (isRipe oldest (trackingOf s i))))
 
   unfoldable pub clearBelow : ℕ → Bool
   clearBelow n = all (λ i. not (stops n i)) (slots d) 0

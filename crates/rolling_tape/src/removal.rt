@@ -9,7 +9,7 @@ ghost use Rattle.layout.specs.Disk.{Sound, slots};
 ghost use Rattle.layout.specs.Session.{sessionBytes};
 ghost use Rattle.rolling_tape.specs.Removal.{areas, stops, clearBelow, goes, removeSlot, removeRipe};
 
-// Whether a slot has a tracked file of the directory below a number that may not go.
+// Whether a slot has a tracked file of the directory, up to a number, that may not go.
 fn stops_below(
     disk: &[u8],
     session: &[u8],
@@ -23,7 +23,7 @@ fn stops_below(
 {
     let file = disk::get_entry(disk, slot);
     if file.owner == place + 1 {
-        if file.number < number {
+        if file.number <= number {
             let now = session::get_tracking(session, slot);
             if is_tracked(now) {
                 return !is_ripe(now, oldest);
@@ -33,7 +33,7 @@ fn stops_below(
     false
 }
 
-// Whether every tracked file of the directory below a number may go.
+// Whether every tracked file of the directory up to a number may go.
 fn clear_below(disk: &[u8], session: &[u8], place: usize, oldest: u64, number: u64) -> bool
     requires { ⌜ (Sound (now disk) × (sessionBytes ≤ length (now session))) × (place < 8) ⌝ }
     ensures { λ r. ⌜ r ≡ clearBelow (now (disk .entry)) (now (session .entry)) place oldest number ⌝ }
@@ -73,7 +73,7 @@ fn remove_slot(disk: &mut [u8], session: &mut [u8], place: usize, oldest: u64, s
     }
 }
 
-// Removes each file of a directory that is marked below an epoch, if every tracked file below it is.
+// Removes each file of a directory that is marked below an epoch, if every tracked file up to it is.
 pub fn remove_ripe(disk: &mut [u8], session: &mut [u8], place: usize, oldest: u64)
     requires { ⌜ (Sound (now disk) × (sessionBytes ≤ length (now session))) × (place < 8) ⌝ }
     ensures { λ _. ⌜ removeRipe (areas (now (disk .entry)) (now (session .entry))) place oldest ≡ areas (now (disk .exit)) (now (session .exit)) ⌝ }

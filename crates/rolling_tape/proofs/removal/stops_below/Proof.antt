@@ -5,7 +5,7 @@ use mathlib.Core.Bool.{true, false, not}
 use mathlib.Core.List.{List}
 use Prim.Native.Nat.{ℕ, _+_, _≤_, _<_}
 use borrow.Author.Needs.{needs}
-use borrow.Author.Tests.{eq-eqb, ne-eqb, lt-ltb, le-ltb}
+use borrow.Author.Tests.{eq-eqb, ne-eqb, le-leb, lt-leb}
 use Rattle.layout.specs.Disk.{owner, number}
 use Rattle.disk.specs.Steps.{entryOf}
 use Rattle.disk.specs.Ways.{entry-owner}
@@ -27,18 +27,18 @@ module _ (d s : List ℕ) (place oldest n i : ℕ) (e : Entry) (read : e ≡ ent
     owned : owner d i ≡ place + 1
     owned = sym (entry-owner d i e read) ∙ own
 
-    above : n ≤ e .number → false ≡ stops d s place oldest n i
+    above : n < e .number → false ≡ stops d s place oldest n i
     unfolding stops
-    above l = rw (eq-eqb (owner d i) (place + 1) owned, le-ltb (number d i) n (rw (entry-number d i e read) at l))
+    above l = rw (eq-eqb (owner d i) (place + 1) owned, lt-leb (number d i) n (rw (entry-number d i e read) at l))
 
-    module _ (l : e .number < n) (t : Tracking) (here : t ≡ trackingOf s i) where
+    module _ (l : e .number ≤ n) (t : Tracking) (here : t ≡ trackingOf s i) where
       untracked : isTracked t ≡ false → false ≡ stops d s place oldest n i
       unfolding stops
-      untracked f = rw (eq-eqb (owner d i) (place + 1) owned, lt-ltb (number d i) n (rw (entry-number d i e read) at l), ← here, f)
+      untracked f = rw (eq-eqb (owner d i) (place + 1) owned, le-leb (number d i) n (rw (entry-number d i e read) at l), ← here, f)
 
       tracked : isTracked t ≡ true → not (isRipe oldest t) ≡ stops d s place oldest n i
       unfolding stops
-      tracked f = rw (eq-eqb (owner d i) (place + 1) owned, lt-ltb (number d i) n (rw (entry-number d i e read) at l), ← here, f)
+      tracked f = rw (eq-eqb (owner d i) (place + 1) owned, le-leb (number d i) n (rw (entry-number d i e read) at l), ← here, f)
 
 get-entry-requires : tie.Need-get-entry-requires
 get-entry-requires c κs = search needs
