@@ -1,5 +1,6 @@
 -- Covering a run's files and writing its bytes: where they write, and that both areas stay sound, as long as they were, and bytes. Assumes nothing.
 use mathlib.Core.Path.{_≡_, refl, _∙_}
+use mathlib.Core.Bool.{Bool}
 use mathlib.Core.List.{List, [], _∷_, List·Memᴰ, List·Memᴰ·head, List·Memᴰ·tail}
 use Prim.Native.Nat.{ℕ, zero, suc, _+_, _≤_, _<_, _^_}
 use native.Mathlib.Omega.{arith}
@@ -16,51 +17,52 @@ use Rattle.layout.specs.Session.{sessionBytes, Begun}
 use Rattle.disk.specs.Steps.{findIn, freeSlot, makeNew, makeUnless, makeFile, writeAt}
 use Rattle.disk.specs.StepLaws.{only-putEntry, length-makeFile, filled, only-filled, only-length, bytes-writeAt, find-low, free-low}
 use Rattle.disk.specs.SoundLaws.{slots-only, data-room, sound-makeFile, bytes-makeFile}
-use Rattle.session.specs.Rows.{trackingOf, putTracking}
+use Rattle.session.specs.Rows.{putTracking}
 use Rattle.session.specs.RowLaws.{only-putTracking, length-putTracking}
 use Rattle.session.specs.KeepLaws.{begun-only, begun-putTracking, bytes-putTracking}
 use Rattle.session.specs.declared.tracking.Tracking.the-variants.{Tracked}
 use Rattle.rolling_tape.specs.declared.tracking.Change.the-variants.{UntrackAbove}
-use Rattle.rolling_tape.specs.Tracking.{isTracked, retracked}
+use Rattle.rolling_tape.specs.Tracking.{retracked}
 use Rattle.rolling_tape.specs.TrackingLaws.{only-rows, length-retracked, only-retracked, bytes-retracked}
 use Rattle.rolling_tape.specs.Removal.{Areas}
-use Rattle.rolling_tape.specs.Writing.{trackFile, trackFound, makeTracked, covered, writeFound, writePiece, writePieces, writeRun}
+use Rattle.rolling_tape.specs.Room.{onDisk}
+use Rattle.rolling_tape.specs.Writing.{wasTracked, trackFile, trackFound, makeTracked, covered, writeFound, writePiece, writePieces, writeRun}
 use Rattle.rolling_tape.specs.WritingWays.{slots-makeFile, made-low, length-writePiece, sound-writePiece}
 
 -- ---- a file tracked
 
-module _ (d s : List ℕ) (place n i : ℕ) where
+module _ (d s : List ℕ) (place n : ℕ) (there : Bool) (i : ℕ) where
   -- those above, untracked
   abbrev above : List ℕ
   above = retracked d s place (UntrackAbove n)
 
-  pub length-trackFile : length (trackFile d s place n i) ≡ length s
+  pub length-trackFile : length (trackFile d s place n there i) ≡ length s
   unfolding trackFile
   length-trackFile =
-      picked (λ (t : List ℕ). length t ≡ length s) (isTracked (trackingOf s i)) s (putTracking above i Tracked) (λ e. refl)
+      picked (λ (t : List ℕ). length t ≡ length s) (wasTracked s there i) s (putTracking above i Tracked) (λ e. refl)
       (λ e. length-putTracking above i Tracked ∙ length-retracked d s place (UntrackAbove n))
 
-  pub begun-trackFile : Begun s → Begun (trackFile d s place n i)
+  pub begun-trackFile : Begun s → Begun (trackFile d s place n there i)
   unfolding trackFile
   begun-trackFile begun =
       let only = only-rows d s place (UntrackAbove n) in
-      picked Begun (isTracked (trackingOf s i)) s (putTracking above i Tracked) (λ e. begun)
+      picked Begun (wasTracked s there i) s (putTracking above i Tracked) (λ e. begun)
       (λ e. begun-putTracking above (begun-only _ _ s above only (λ q. omega arith) (λ q. omega arith) (λ q. omega arith) begun) i Tracked)
 
   module _ (few : slots d ≤ 64) (low : i < 64) where
-    pub only-trackFile : OnlyIn 4936 5960 s (trackFile d s place n i)
+    pub only-trackFile : OnlyIn 4936 5960 s (trackFile d s place n there i)
     unfolding trackFile
     only-trackFile =
-        picked (λ (t : List ℕ). OnlyIn 4936 5960 s t) (isTracked (trackingOf s i)) s (putTracking above i Tracked) (λ e. only-none 4936 5960 s)
+        picked (λ (t : List ℕ). OnlyIn 4936 5960 s t) (wasTracked s there i) s (putTracking above i Tracked) (λ e. only-none 4936 5960 s)
         (λ e.
         only-then 4936 5960 s above _ (only-retracked d s place (UntrackAbove n) few)
         (only-wider _ _ 4936 5960 above _ (omega arith) (omega arith) (only-putTracking above i Tracked)))
 
-    pub bytes-trackFile : sessionBytes ≤ length s → Bytes s → Bytes (trackFile d s place n i)
+    pub bytes-trackFile : sessionBytes ≤ length s → Bytes s → Bytes (trackFile d s place n there i)
     unfolding trackFile
     bytes-trackFile long bytes =
         let same = length-retracked d s place (UntrackAbove n) in
-        picked Bytes (isTracked (trackingOf s i)) s (putTracking above i Tracked) (λ e. bytes)
+        picked Bytes (wasTracked s there i) s (putTracking above i Tracked) (λ e. bytes)
         (λ e. bytes-putTracking above (bytes-retracked d s place (UntrackAbove n) few long bytes) i Tracked (omega arith))
 
 -- ---- a file made
@@ -91,7 +93,7 @@ module _ (a : Areas) (place n : ℕ) where
   unfolding makeTracked
   disk-makeTracked = by (makeFile (a .disk) place n .answer)
     where
-      by : (f : Found) → trackFound made (a .session) place n f .disk ≡ made
+      by : (f : Found) → trackFound made (a .session) place n (onDisk (a .disk) place n) f .disk ≡ made
       by (At i) = refl
       by Nothing = refl
 
@@ -114,16 +116,16 @@ module _ (a : Areas) (place n : ℕ) where
   unfolding makeTracked
   length-makeTracked-session = by (makeFile (a .disk) place n .answer)
     where
-      by : (f : Found) → length (trackFound made (a .session) place n f .session) ≡ length (a .session)
-      by (At i) = length-trackFile made (a .session) place n i
+      by : (f : Found) → length (trackFound made (a .session) place n (onDisk (a .disk) place n) f .session) ≡ length (a .session)
+      by (At i) = length-trackFile made (a .session) place n (onDisk (a .disk) place n) i
       by Nothing = refl
 
   pub begun-makeTracked : Begun (a .session) → Begun (makeTracked a place n .session)
   unfolding makeTracked
   begun-makeTracked begun = by (makeFile (a .disk) place n .answer)
     where
-      by : (f : Found) → Begun (trackFound made (a .session) place n f .session)
-      by (At i) = begun-trackFile made (a .session) place n i begun
+      by : (f : Found) → Begun (trackFound made (a .session) place n (onDisk (a .disk) place n) f .session)
+      by (At i) = begun-trackFile made (a .session) place n (onDisk (a .disk) place n) i begun
       by Nothing = begun
 
   module _ (few : slots (a .disk) ≤ 64) where
@@ -137,16 +139,16 @@ module _ (a : Areas) (place n : ℕ) where
     unfolding makeTracked
     only-makeTracked-session = by (makeFile (a .disk) place n .answer) refl
       where
-        by : (f : Found) → makeFile (a .disk) place n .answer ≡ f → OnlyIn 4936 5960 (a .session) (trackFound made (a .session) place n f .session)
-        by (At i) e = only-trackFile made (a .session) place n i still-few (slot-low i e)
+        by : (f : Found) → makeFile (a .disk) place n .answer ≡ f → OnlyIn 4936 5960 (a .session) (trackFound made (a .session) place n (onDisk (a .disk) place n) f .session)
+        by (At i) e = only-trackFile made (a .session) place n (onDisk (a .disk) place n) i still-few (slot-low i e)
         by Nothing e = only-none 4936 5960 (a .session)
 
     pub bytes-makeTracked-session : sessionBytes ≤ length (a .session) → Bytes (a .session) → Bytes (makeTracked a place n .session)
     unfolding makeTracked
     bytes-makeTracked-session long bytes = by (makeFile (a .disk) place n .answer) refl
       where
-        by : (f : Found) → makeFile (a .disk) place n .answer ≡ f → Bytes (trackFound made (a .session) place n f .session)
-        by (At i) e = bytes-trackFile made (a .session) place n i still-few (slot-low i e) long bytes
+        by : (f : Found) → makeFile (a .disk) place n .answer ≡ f → Bytes (trackFound made (a .session) place n (onDisk (a .disk) place n) f .session)
+        by (At i) e = bytes-trackFile made (a .session) place n (onDisk (a .disk) place n) i still-few (slot-low i e) long bytes
         by Nothing e = bytes
 
 -- ---- some numbers covered

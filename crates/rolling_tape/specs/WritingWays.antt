@@ -1,6 +1,6 @@
 -- The ways out of the functions that write a run, and the turns of their loops. Assumes nothing.
 use mathlib.Core.Path.{_≡_, refl, sym, ap, _∙_}
-use mathlib.Core.Bool.{true, false}
+use mathlib.Core.Bool.{Bool, true, false}
 use mathlib.Core.List.{List, []}
 use Prim.Native.Nat.{ℕ, suc, _+_, _-_, _≤_, _<_, _^_}
 use native.Mathlib.Nat.{add-assoc}
@@ -15,12 +15,13 @@ use Rattle.layout.specs.Disk.{slots, Sound}
 use Rattle.disk.specs.Steps.{After, after, findIn, freeSlot, makeNew, makeUnless, makeFile, writeAt}
 use Rattle.disk.specs.StepLaws.{only-putEntry, length-writeAt, find-low, free-low}
 use Rattle.disk.specs.SoundLaws.{slots-only, sound-writeAt, sound-makeFile}
-use Rattle.session.specs.Rows.{trackingOf, putTracking}
+use Rattle.session.specs.Rows.{putTracking}
 use Rattle.session.specs.declared.tracking.Tracking.the-variants.{Tracked}
 use Rattle.rolling_tape.specs.declared.tracking.Change.the-variants.{UntrackAbove}
-use Rattle.rolling_tape.specs.Tracking.{isTracked, retracked}
+use Rattle.rolling_tape.specs.Tracking.{retracked}
 use Rattle.rolling_tape.specs.Removal.{Areas, areas}
-use Rattle.rolling_tape.specs.Writing.{trackFile, trackFound, makeTracked, covered, writeFound, writePiece, writePieces, writeRun}
+use Rattle.rolling_tape.specs.Room.{onDisk}
+use Rattle.rolling_tape.specs.Writing.{wasTracked, trackFile, trackFound, makeTracked, covered, writeFound, writePiece, writePieces, writeRun}
 
 -- ---- one piece
 
@@ -127,23 +128,23 @@ module _ (d : List ℕ) (place n : ℕ) where
 
 -- ---- a file tracked
 
-module _ (d s : List ℕ) (place n i : ℕ) where
-  pub track-kept : isTracked (trackingOf s i) ≡ true → trackFile d s place n i ≡ s
+module _ (d s : List ℕ) (place n : ℕ) (there : Bool) (i : ℕ) where
+  pub track-kept : wasTracked s there i ≡ true → trackFile d s place n there i ≡ s
   unfolding trackFile
   track-kept e = rw e
 
-  pub track-new : isTracked (trackingOf s i) ≡ false → trackFile d s place n i ≡ putTracking (retracked d s place (UntrackAbove n)) i Tracked
+  pub track-new : wasTracked s there i ≡ false → trackFile d s place n there i ≡ putTracking (retracked d s place (UntrackAbove n)) i Tracked
   unfolding trackFile
   track-new e = rw e
 
 module _ (d s : List ℕ) (place n : ℕ) (t : List ℕ) where
-  pub tracked-made : (i : ℕ) → makeFile d place n ≡ after (At i) t → makeTracked (areas d s) place n ≡ areas t (trackFile t s place n i)
+  pub tracked-made : (i : ℕ) → makeFile d place n ≡ after (At i) t → makeTracked (areas d s) place n ≡ areas t (trackFile t s place n (onDisk d place n) i)
   unfolding makeTracked
-  tracked-made i e = ap (λ (r : After). trackFound (r .area) s place n (r .answer)) e
+  tracked-made i e = ap (λ (r : After). trackFound (r .area) s place n (onDisk d place n) (r .answer)) e
 
   pub tracked-full : makeFile d place n ≡ after Nothing t → makeTracked (areas d s) place n ≡ areas t s
   unfolding makeTracked
-  tracked-full e = ap (λ (r : After). trackFound (r .area) s place n (r .answer)) e
+  tracked-full e = ap (λ (r : After). trackFound (r .area) s place n (onDisk d place n) (r .answer)) e
 
 module _ (a : Areas) (place first count done : ℕ) where
   pub cover-turn : done < count

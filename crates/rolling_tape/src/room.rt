@@ -7,7 +7,7 @@ ghost use Rattle.layout.specs.Disk.{Sound};
 ghost use Rattle.rolling_tape.specs.Room.{onDisk};
 
 // Whether a directory has the file of a number.
-fn has_file(disk: &[u8], place: usize, number: u64) -> bool
+pub fn has_file(disk: &[u8], place: usize, number: u64) -> bool
     requires { ⌜ Sound (now disk) × (place < 8) ⌝ }
     ensures { λ r. ⌜ r ≡ onDisk (now (disk .entry)) place number ⌝ }
 {

@@ -1,5 +1,6 @@
 // A run of bytes written over files: first every file that it lies in is made and tracked, then the
 // bytes are written, so that they may come out of the session itself.
+use crate::room::has_file;
 use crate::tracking::Change;
 use crate::tracking::is_tracked;
 use crate::tracking::retrack;
@@ -11,15 +12,26 @@ ghost use lib.ListN.{length};
 ghost use Rattle.layout.specs.Disk.{Sound, slots};
 ghost use Rattle.layout.specs.Session.{sessionBytes};
 ghost use Rattle.rolling_tape.specs.Removal.{areas};
-ghost use Rattle.rolling_tape.specs.Writing.{trackFile, makeTracked, covered, writePiece, writeRun};
+ghost use Rattle.rolling_tape.specs.Writing.{wasTracked, trackFile, makeTracked, covered, writePiece, writeRun};
+
+// Whether the file in a slot was there before and is tracked. What the row of a free slot says is no
+// file's.
+fn was_tracked(session: &[u8], there: bool, slot: usize) -> bool
+    requires { ⌜ (sessionBytes ≤ length (now session)) × (slot < 64) ⌝ }
+    ensures { λ r. ⌜ r ≡ wasTracked (now (session .entry)) there slot ⌝ }
+{
+    if there {
+        return is_tracked(session::get_tracking(session, slot));
+    }
+    false
+}
 
 // The file in a slot is tracked from now on; one that was not untracks those with higher numbers.
-fn track_file(disk: &[u8], session: &mut [u8], place: usize, number: u64, slot: usize)
+fn track_file(disk: &[u8], session: &mut [u8], place: usize, number: u64, there: bool, slot: usize)
     requires { ⌜ (Sound (now disk) × (sessionBytes ≤ length (now session))) × ((place < 8) × (slot < slots (now disk))) ⌝ }
-    ensures { λ _. ⌜ now (session .exit) ≡ trackFile (now (disk .entry)) (now (session .entry)) place number slot ⌝ }
+    ensures { λ _. ⌜ now (session .exit) ≡ trackFile (now (disk .entry)) (now (session .entry)) place number there slot ⌝ }
 {
-    let now = session::get_tracking(session, slot);
-    if is_tracked(now) {
+    if was_tracked(session, there, slot) {
         return;
     }
     retrack(disk, session, place, Change::UntrackAbove(number));
@@ -32,11 +44,12 @@ fn make_tracked(disk: &mut [u8], session: &mut [u8], place: usize, number: u64)
     requires { ⌜ (Sound (now disk) × (sessionBytes ≤ length (now session))) × (place < 8) ⌝ }
     ensures { λ _. ⌜ makeTracked (areas (now (disk .entry)) (now (session .entry))) place number ≡ areas (now (disk .exit)) (now (session .exit)) ⌝ }
 {
+    let there = has_file(disk, place, number);
     let made = disk::make_file(disk, place, number);
     let Found::At(slot) = made else {
         return;
     };
-    track_file(disk, session, place, number, slot);
+    track_file(disk, session, place, number, there, slot);
 }
 
 // The same for some numbers, one after the other.
