@@ -1,7 +1,17 @@
 // Bounds in entries. The products are never formed before they are known to fit.
 ghost use mathlib.Core.Path.{_≡_};
-ghost use Prim.Native.Nat.{_<_};
+ghost use Prim.Native.Nat.{_-_, _<_};
 ghost use Rattle.components.specs.Bounds.{upTo, inBounds};
+
+// How far a lies above b; 0 where it does not.
+pub fn above(a: u64, b: u64) -> u64
+    ensures { λ r. ⌜ r ≡ a - b ⌝ }
+{
+    if a < b {
+        return 0;
+    }
+    a - b
+}
 
 // Whether an index in entries is not past a length in bytes.
 pub fn up_to(entry: u64, index: u64, len: u64) -> bool

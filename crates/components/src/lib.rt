@@ -4,9 +4,12 @@
 // rows over them (`examples`). Proved, and nothing is assumed.
 mod bounds;
 mod pieces;
+mod slots;
 
+pub use bounds::above;
 pub use bounds::in_bounds;
 pub use bounds::up_to;
 pub use pieces::file_of;
 pub use pieces::left_in;
 pub use pieces::place_in;
+pub use slots::files_covered;

@@ -14,7 +14,7 @@ use Rattle.metadata.specs.Record.{encodeRecord}
 use Rattle.metadata.specs.RecordLaws.{length-record}
 use Rattle.ring_buffer.specs.declared.bookkeeping.RingBuffer.{RingBuffer}
 use Rattle.ring_buffer.specs.Ring.{nth, nths, held, fromCache, ringAt, around, fresh, pushed, popped, prepared}
-use Rattle.ring_buffer.specs.Put.{putRing, putBytes, unwrittenOf, sent, unwrittenAfter}
+use Rattle.ring_buffer.specs.Put.{afterPut, bytesAfterPut, unwrittenOf, sent, unwrittenAfter}
 use Rattle.components.specs.Pieces.{fileOf}
 use Rattle.components.specs.FileBytes.{written}
 use Rattle.components.specs.Files.{Files, noFiles, byteAt, writeByte, write, markBelow, ripeBelow, remove}
@@ -38,20 +38,20 @@ abcdef = 0x61 ∷ 0x62 ∷ 0x63 ∷ 0x64 ∷ 0x65 ∷ 0x66 ∷ []
 
 -- `abcdef` put at 0, which fills the cache
 abbrev pub filled : RingBuffer
-filled = putRing (fresh 4 0) 0 abcdef
+filled = afterPut (fresh 4 0) 0 abcdef
 
 abbrev pub filledBytes : List ℕ
-filledBytes = putBytes (fresh 4 0) (replicate 4 0) abcdef
+filledBytes = bytesAfterPut (fresh 4 0) (replicate 4 0) abcdef
 
 abbrev files : Files
 files = write 4 noFiles 0 (sent (fresh 4 0) (replicate 4 0) 0 abcdef)
 
 -- the commit finds nothing unwritten; then `g` is put at 6, and dropped
 abbrev pub staged : RingBuffer
-staged = putRing filled 6 (0x67 ∷ [])
+staged = afterPut filled 6 (0x67 ∷ [])
 
 abbrev pub stagedBytes : List ℕ
-stagedBytes = putBytes filled filledBytes (0x67 ∷ [])
+stagedBytes = bytesAfterPut filled filledBytes (0x67 ∷ [])
 
 abbrev dropped : RingBuffer
 dropped = popped staged 1
@@ -114,7 +114,7 @@ pub record Examples : Type 0 where
   nine-past : inBounds 1 0 10 10 1 ≡ false
 
 pub examples : Examples
-unfolding encodeList sortedMap each encodeTape vec le written put byteAt writeByte write markBelow ripeBelow remove least oldestOther older inBounds nth nths around pushed popped prepared putRing putBytes unwrittenOf sent unwrittenAfter
+unfolding encodeList sortedMap each encodeTape vec le written put byteAt writeByte write markBelow ripeBelow remove least oldestOther older inBounds nth nths around pushed popped prepared afterPut bytesAfterPut unwrittenOf sent unwrittenAfter
 examples =
     record {
       one = refl;

@@ -8,7 +8,7 @@ use Prim.Native.Nat.{ℕ}
 use lib.Dec.{eqb}
 use Rattle.octets.specs.Bytes.{put}
 use Rattle.ring_buffer.specs.Ring.{nth, nths, fromCache, ringAt, firstPart, secondPart, around, ring, pushed, popped, truncated, prepared}
-use Rattle.ring_buffer.specs.Put.{putRing, putBytes}
+use Rattle.ring_buffer.specs.Put.{afterPut, bytesAfterPut}
 use Rattle.components.specs.Pieces.{fileOf, piece, piecesFrom, pieces}
 use Rattle.components.specs.FileBytes.{written}
 use Rattle.components.specs.Files.{File, Files, gone, writeByte, write, markBelow, ripeBelow, remove, clearFrom, track}
@@ -69,7 +69,7 @@ pub record Settled : Type 0 where
   cut-above : cutStart 3 4 ≡ 3
 
 pub settled : Settled
-unfolding pieces piecesFrom written put writeByte write markBelow ripeBelow remove clearFrom track least oldestOther noSlot lacking lackingFrom covered nth nths firstPart secondPart around pushed popped truncated prepared putRing putBytes
+unfolding pieces piecesFrom written put writeByte write markBelow ripeBelow remove clearFrom track least oldestOther noSlot lacking lackingFrom covered nth nths firstPart secondPart around pushed popped truncated prepared afterPut bytesAfterPut
 settled =
     record {
       in-pieces = refl;

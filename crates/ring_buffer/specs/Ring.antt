@@ -80,3 +80,7 @@ truncated r len = ring (r .capacity) (r .start) (min (r .len) (len - r .first)) 
 -- "A cache emptied by a truncate or by a dropped append takes the tape length as its first index before the next write"
 unfoldable pub prepared : RingBuffer → ℕ → RingBuffer
 prepared r len = ring (r .capacity) (r .start) (r .len) (cond (eqb (r .len) 0) len (r .first))
+
+-- a ring over the last n held bytes alone
+unfoldable pub lastHeld : RingBuffer → ℕ → RingBuffer
+lastHeld r n = ring (r .capacity) ((r .start + (r .len - n)) % r .capacity) n ((r .first + (r .len - n)) % 2 ^ 64)

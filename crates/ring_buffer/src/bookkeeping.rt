@@ -2,7 +2,7 @@
 use std::num::wrapping_add_u64;
 ghost use mathlib.Core.Path.{_≡_};
 ghost use Prim.Native.Nat.{_-_, _≤_, _<_};
-ghost use Rattle.ring_buffer.specs.Ring.{fresh, resetTo, pushed, popped, truncated, prepared};
+ghost use Rattle.ring_buffer.specs.Ring.{fresh, resetTo, pushed, popped, truncated, prepared, lastHeld};
 
 pub struct RingBuffer {
     // How many bytes the ring has room for.
@@ -120,5 +120,20 @@ impl RingBuffer {
             };
         }
         self
+    }
+
+    // A ring over the last n of the held bytes alone.
+    pub fn last(self, n: usize) -> Self
+        requires { ⌜ (self .start < self .capacity) × ((self .len ≤ self .capacity) × ((n ≤ self .len) × (self .capacity ≤ 4096))) ⌝ }
+        ensures { λ r. ⌜ r ≡ lastHeld self n ⌝ }
+    {
+        let capacity = self.capacity;
+        let before = self.len - n;
+        RingBuffer {
+            capacity: capacity,
+            start: (self.start + before) % capacity,
+            len: n,
+            first: wrapping_add_u64(self.first, before as u64),
+        }
     }
 }

@@ -5,6 +5,7 @@ pub mod RemovalLaws
 pub mod Writing
 pub mod WritingWays
 pub mod WritingLaws
+pub mod AppendLaws
 pub mod Reading
 pub mod ReadingWays
 pub mod ReadingLaws
