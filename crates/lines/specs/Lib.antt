@@ -1,0 +1,14 @@
+pub mod Written
+pub mod Numbers
+pub mod NumberLaws
+pub mod Hex
+pub mod HexLaws
+pub mod Fields
+pub mod FieldLaws
+pub mod Words
+pub mod Calls
+pub mod CallLaws
+pub mod Reply
+pub mod ReplyLaws
+pub mod Worked
+pub mod Settled
