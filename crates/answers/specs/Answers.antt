@@ -1,5 +1,8 @@
 -- Document 01, "Refusal numbers": "A refused call returns its number with value 0 (4 returns a count)". Assumes nothing.
 use Prim.Native.Nat.{ℕ}
+use Rattle.answers.specs.declared.OneEntry.{OneEntry}
+use Rattle.answers.specs.declared.OneEntry.the-variants.{Entry, NoEntry}
+use Rattle.answers.specs.declared.OneEntry.the-variants as One
 use Rattle.answers.specs.declared.Refusal.{Refusal}
 use Rattle.answers.specs.declared.Refusal.the-variants.{Unusable, Unknown, WriterOpen, Wait, Full, BadName, ReservedName, BadSize, AlreadyOpen, NotWhole, Absent, OutOfBounds, StartPastLength, LongerCut, NoSlot, Missing, BadList, TooLarge}
 use Rattle.answers.specs.declared.Answer.{Answer}
@@ -52,3 +55,15 @@ codeOf (Refused why) = refusalNumber why
 abbrev pub valueOf : Answer → ℕ
 valueOf (Done v) = v
 valueOf (Refused why) = refusalValue why
+
+-- ---- of one entry: where there is none the value is 2^64-1, which no entry has as its index
+
+abbrev pub entryCodeOf : OneEntry → ℕ
+entryCodeOf (Entry i) = 0
+entryCodeOf NoEntry = 0
+entryCodeOf (One.Refused why) = refusalNumber why
+
+abbrev pub entryValueOf : OneEntry → ℕ
+entryValueOf (Entry i) = i
+entryValueOf NoEntry = 0xffff_ffff_ffff_ffff
+entryValueOf (One.Refused why) = refusalValue why

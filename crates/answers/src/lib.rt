@@ -2,7 +2,7 @@
 // stands in `specs/Answers.antt`; the functions give its numbers to whoever talks in numbers. Proved,
 // and nothing is assumed.
 ghost use mathlib.Core.Path.{_≡_};
-ghost use Rattle.answers.specs.Answers.{refusalNumber, refusalValue, codeOf, valueOf};
+ghost use Rattle.answers.specs.Answers.{refusalNumber, refusalValue, codeOf, valueOf, entryCodeOf, entryValueOf};
 
 // The reasons, in the order of their numbers.
 pub enum Refusal {
@@ -116,5 +116,36 @@ pub fn value(answer: Answer) -> u64
     match answer {
         Answer::Done(given) => given,
         Answer::Refused(why) => refusal_value(why),
+    }
+}
+
+// What a call for one entry answers.
+pub enum OneEntry {
+    // The entry of this index stands at the buffer's front.
+    Entry(u64),
+    // There is none.
+    NoEntry,
+    Refused(Refusal),
+}
+
+// The refusal's number; 0 where there is an entry, and where there is none.
+pub fn entry_code(answer: OneEntry) -> u64
+    ensures { λ r. ⌜ r ≡ entryCodeOf answer ⌝ }
+{
+    match answer {
+        OneEntry::Entry(_) => 0,
+        OneEntry::NoEntry => 0,
+        OneEntry::Refused(why) => refusal_number(why),
+    }
+}
+
+// The entry's index; where there is none 2^64-1, which no entry has.
+pub fn entry_value(answer: OneEntry) -> u64
+    ensures { λ r. ⌜ r ≡ entryValueOf answer ⌝ }
+{
+    match answer {
+        OneEntry::Entry(index) => index,
+        OneEntry::NoEntry => 0xffff_ffff_ffff_ffff,
+        OneEntry::Refused(why) => refusal_value(why),
     }
 }

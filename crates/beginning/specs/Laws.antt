@@ -19,7 +19,8 @@ use Rattle.answers.specs.declared.Answer.the-variants.{Done}
 use Rattle.answers.specs.declared.Refusal.{Refusal}
 use Rattle.answers.specs.declared.Refusal.the-variants.{Unusable, Unknown, WriterOpen, Wait, Full, BadName, ReservedName, BadSize, AlreadyOpen, NotWhole, Absent, OutOfBounds, StartPastLength, LongerCut, NoSlot, Missing, BadList, TooLarge}
 use Rattle.areas.specs.Format as A
-use Rattle.areas.specs.Format.{outcome, formatStep}
+use Rattle.answers.specs.Outcome.{Outcome, outcome}
+use Rattle.areas.specs.Format.{formatStep}
 use Rattle.areas.specs.FormatLaws.{Served, served, refused-same}
 use Rattle.areas.specs.declared.Formatted.{Formatted}
 use Rattle.areas.specs.declared.Formatted.the-variants as F
@@ -34,7 +35,7 @@ use Rattle.session.specs.RowLaws.{HeadFits, only-copyView, only-putTransaction}
 use Rattle.session.specs.Meaning.{Session, sessionOf, withHead, withViews, withTransaction}
 use Rattle.session.specs.MeaningLaws.{Ready, head-at, transaction-at, ready-putTransaction, ready-copyView, session-putTransaction, session-copyView, session-putHead, isOpen}
 use Rattle.session.specs.KeepLaws.{begun-ready, begun-putHead, begun-copyView, begun-putTransaction, bytes-putHead, bytes-copyView, bytes-putTransaction}
-use Rattle.beginning.specs.Disks.{Both, both, answered, formatCall}
+use Rattle.beginning.specs.Disks.{answered, formatCall}
 use Rattle.beginning.specs.Transactions.{After, after, refused, usable, isOpenAt, isOlder, waitingFor, begunAt, beginAt}
 use Rattle.beginning.specs.Calls.{waits, appendCall, truncateCall, readerCall}
 use Rattle.beginning.specs.Sessions.{storeCall}
@@ -45,8 +46,8 @@ use Rattle.beginning.specs.Ways.{usable-begun, free-low, free-closed, nu
 pub after-unique : {r r′ : Answer} {s s′ : List ℕ} → after r s ≡ after r′ s′ → (r ≡ r′) × (s ≡ s′)
 after-unique e = (ap (λ (o : After). o .answer) e, ap (λ (o : After). o .session) e)
 
-pub both-unique : {r r′ : Answer} {d d′ s s′ : List ℕ} → both r d s ≡ both r′ d′ s′ → (r ≡ r′) × ((d ≡ d′) × (s ≡ s′))
-both-unique e = (ap (λ (o : Both). o .answer) e, (ap (λ (o : Both). o .disk) e, ap (λ (o : Both). o .session) e))
+pub both-unique : {r r′ : Answer} {d d′ s s′ : List ℕ} → outcome r d s ≡ outcome r′ d′ s′ → (r ≡ r′) × ((d ≡ d′) × (s ≡ s′))
+both-unique e = (ap (λ (o : Outcome). o .answer) e, (ap (λ (o : Outcome). o .disk) e, ap (λ (o : Outcome). o .session) e))
 
 -- two results that satisfy a function's contract are the same answer and the same areas
 module _ (d s : List ℕ) (r r′ : Answer) (t t′ : List ℕ) where
@@ -62,7 +63,7 @@ module _ (d s : List ℕ) (r r′ : Answer) (t t′ : List ℕ) where
   pub store-unique : storeCall d s ≡ after r t → storeCall d s ≡ after r′ t′ → (r ≡ r′) × (t ≡ t′)
   store-unique e f = after-unique (sym e ∙ f)
 
-pub format-unique : (d s : List ℕ) (n : ℕ) (r r′ : Answer) (d₁ d₂ s₁ s₂ : List ℕ) → formatCall d s n ≡ both r d₁ s₁ → formatCall d s n ≡ both r′ d₂ s₂
+pub format-unique : (d s : List ℕ) (n : ℕ) (r r′ : Answer) (d₁ d₂ s₁ s₂ : List ℕ) → formatCall d s n ≡ outcome r d₁ s₁ → formatCall d s n ≡ outcome r′ d₂ s₂
     → (r ≡ r′) × ((d₁ ≡ d₂) × (s₁ ≡ s₂))
 format-unique d s n r r′ d₁ d₂ s₁ s₂ e f = both-unique (sym e ∙ f)
 
@@ -102,7 +103,7 @@ module _ (d s : List ℕ) (n : ℕ) where
   format-refused r = refused-same d s n (λ e. r (format-code (formatStep d s n .answer) ∙ e))
 
   -- an empty disk, and a session area that holds no session; both keep their rules
-  pub format-served : codeOf (formatCall d s n .answer) ≡ 0 → Served n (outcome F.Done (formatCall d s n .disk) (formatCall d s n .session))
+  pub format-served : codeOf (formatCall d s n .answer) ≡ 0 → Served n (A.outcome F.Done (formatCall d s n .disk) (formatCall d s n .session))
   unfolding formatCall
   format-served e =
       let m = served d s n (sym (format-code (formatStep d s n .answer)) ∙ e) in

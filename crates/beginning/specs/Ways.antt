@@ -12,7 +12,9 @@ use Rattle.octets.specs.First.{first-hits}
 use Rattle.octets.specs.declared.Found.the-variants.{At, Nothing}
 use Rattle.answers.specs.declared.Answer.the-variants.{Done}
 use Rattle.answers.specs.declared.Refusal.the-variants.{Unusable, WriterOpen, Wait, Full, BadList, TooLarge}
-use Rattle.areas.specs.Format.{outcome, formatStep}
+use Rattle.answers.specs.Outcome.{outcome}
+use Rattle.areas.specs.Format.{formatStep}
+use Rattle.areas.specs.Format as Step
 use Rattle.areas.specs.declared.Formatted.{Formatted}
 use Rattle.metadata.specs.Decoding.{Listing, tapes, unreadable}
 use Rattle.metadata.specs.Choice.{chosen, nextSide, chosenEpoch, chosenList}
@@ -32,14 +34,14 @@ use Rattle.session.specs.Rows.{headOf, putHead, copyView, isClosed, freeReader,
 use Rattle.session.specs.declared.head.Head.{Head}
 use Rattle.session.specs.declared.transactions.Kind.{Kind}
 use Rattle.session.specs.declared.transactions.Kind.the-variants.{Reader, Append, Truncate}
-use Rattle.beginning.specs.Disks.{both, answered, formatCall}
+use Rattle.beginning.specs.Disks.{answered, formatCall}
 use Rattle.beginning.specs.Transactions.{after, refused, usable, isOpenAt, isOlder, begunAt, beginAt}
 use Rattle.beginning.specs.Calls.{waits, appendCall, truncateCall, readerCall}
 use Rattle.beginning.specs.Sessions.{bothSound, theRecord, startWith, storeCall}
 
 -- ---- a new disk
 
-pub format-answered : (d s : List ℕ) (n : ℕ) (a : Formatted) (d′ s′ : List ℕ) → formatStep d s n ≡ outcome a d′ s′ → formatCall d s n ≡ both (answered a) d′ s′
+pub format-answered : (d s : List ℕ) (n : ℕ) (a : Formatted) (d′ s′ : List ℕ) → formatStep d s n ≡ Step.outcome a d′ s′ → formatCall d s n ≡ outcome (answered a) d′ s′
 unfolding formatCall
 format-answered d s n a d′ s′ e = rw e
 

@@ -14,4 +14,5 @@ pub use calls::reader;
 pub use calls::truncate;
 pub use disks::format;
 pub use sessions::store;
+pub use transactions::is_open;
 pub use transactions::is_usable;

@@ -8,12 +8,19 @@ use Rattle.octets.specs.declared.Found.the-variants.{At, Nothing}
 use Rattle.answers.specs.declared.Answer.{Answer}
 use Rattle.answers.specs.declared.Answer.the-variants.{Done, Refused}
 use Rattle.answers.specs.declared.Refusal.the-variants.{Unusable, Unknown, Absent}
+use Rattle.layout.specs.Disk.{directories}
+use Rattle.layout.specs.Names.{name, findName}
+use Rattle.layout.specs.Session.{namesAt}
 use Rattle.session.specs.Rows.{viewOf, stagedOf, handleOf, transactionOf, findTransaction, findHandle}
 use Rattle.session.specs.declared.views.View.{View}
 use Rattle.session.specs.declared.tape_rows.Staged.{Staged}
 use Rattle.session.specs.declared.transactions.Kind.{Kind}
 use Rattle.session.specs.declared.transactions.Kind.the-variants.{Closed, Reader, Append, Truncate}
 use Rattle.beginning.specs.Transactions.{usable}
+
+-- the directory of tape p's name
+abbrev pub directoryOf : List ℕ → List ℕ → ℕ → Found
+directoryOf d s p = findName d directories (name s namesAt p)
 
 -- transaction place t's view of tape p; the writer's place is 16
 unfoldable pub seenBy : List ℕ → ℕ → ℕ → View

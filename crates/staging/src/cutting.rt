@@ -15,7 +15,7 @@ ghost use Rattle.beginning.specs.Transactions.{after};
 ghost use Rattle.staging.specs.Cutting.{cutTo, cutOn, dropOn, cutCall, dropCall};
 
 // A length, staged; nothing is left unwritten.
-fn put_len(session: &mut [u8], tape: usize, len: u64)
+pub fn put_len(session: &mut [u8], tape: usize, len: u64)
     requires { ⌜ Begun (now session) × (tape < 8) ⌝ }
     ensures { λ _. ⌜ now (session .exit) ≡ cutTo (now (session .entry)) tape len ⌝ }
 {

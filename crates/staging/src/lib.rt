@@ -10,7 +10,11 @@ mod seeing;
 mod shifting;
 
 pub use cutting::drop_entries;
+pub use cutting::put_len;
 pub use cutting::truncate_tape;
+pub use seeing::is_append;
+pub use seeing::is_cutting;
+pub use seeing::is_writing;
 pub use seeing::seen_by;
 pub use seeing::tape_len;
 pub use seeing::tape_start;

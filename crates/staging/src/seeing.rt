@@ -50,7 +50,7 @@ pub fn touched_as(session: &[u8], tape: usize) -> Staged
     }
 }
 
-fn is_append(kind: Kind) -> bool
+pub fn is_append(kind: Kind) -> bool
     ensures { λ r. ⌜ r ≡ isAppend kind ⌝ }
 {
     match kind {

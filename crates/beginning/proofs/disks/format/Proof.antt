@@ -2,7 +2,8 @@
 use mathlib.Core.Path.{ap, _∙_}
 use borrow.Author.Needs.{needs}
 use Rattle.areas.specs.declared.Formatted.{Formatted}
-use Rattle.beginning.specs.Disks.{both, answered}
+use Rattle.answers.specs.Outcome.{outcome}
+use Rattle.beginning.specs.Disks.{answered}
 use Rattle.beginning.specs.Ways.{format-answered}
 use Rattle.beginning.proofs.disks.format.Statement.{statement}
 use Rattle.beginning.proofs.disks.format.Tie as tie
@@ -33,7 +34,7 @@ returns c =
     let d = format .last .0 in
     let s = format .last .1 .0 in
     format-answered (args .disk .now) (args .session .now) (args .slots) (format .result) d s (format .ensures)
-    ∙ ap (λ (a : Formatted). both (answered a) d s) (enum-told .given .1)
+    ∙ ap (λ (a : Formatted). outcome (answered a) d s) (enum-told .given .1)
 
 same-length-3 : tie.Need-same-length-3
 same-length-3 c = search needs
@@ -49,7 +50,7 @@ returns-2 c =
     let d = format .last .0 in
     let s = format .last .1 .0 in
     format-answered (args .disk .now) (args .session .now) (args .slots) (format .result) d s (format .ensures)
-    ∙ ap (λ (a : Formatted). both (answered a) d s) (enum-told2 .given .1)
+    ∙ ap (λ (a : Formatted). outcome (answered a) d s) (enum-told2 .given .1)
 
 same-length-5 : tie.Need-same-length-5
 same-length-5 c = search needs
@@ -65,7 +66,7 @@ returns-3 c =
     let d = format .last .0 in
     let s = format .last .1 .0 in
     format-answered (args .disk .now) (args .session .now) (args .slots) (format .result) d s (format .ensures)
-    ∙ ap (λ (a : Formatted). both (answered a) d s) (enum-told3 .given .1)
+    ∙ ap (λ (a : Formatted). outcome (answered a) d s) (enum-told3 .given .1)
 
 pub format-spec : {M : Type 1} → statement M
 format-spec =

@@ -1,0 +1,5 @@
+pub mod Reads
+pub mod Popping
+pub mod Existing
+pub mod Ways
+pub mod Laws
