@@ -1,0 +1,11 @@
+pub mod Shape
+pub mod NamesLeft
+pub mod Directory
+pub mod Ways
+pub mod ShapeLaws
+pub mod DirectoryLaws
+pub mod Calls
+pub mod PlacingLaws
+pub mod CallWays
+pub mod RowedLaws
+pub mod Laws
