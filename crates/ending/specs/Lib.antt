@@ -1,0 +1,17 @@
+pub mod Listing
+pub mod ListingLaws
+pub mod ListingAll
+pub mod Oldest
+pub mod OldestLaws
+pub mod Checking
+pub mod Steps
+pub mod StepLaws
+pub mod CutLaws
+pub mod Committing
+pub mod CommitWays
+pub mod CommitLaws
+pub mod CommitMeaning
+pub mod CommitDurable
+pub mod Dropping
+pub mod DropLaws
+pub mod DropMeaning
