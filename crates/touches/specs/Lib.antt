@@ -1,0 +1,12 @@
+pub mod Parts
+pub mod Rows
+pub mod Files
+pub mod Begins
+pub mod Stages
+pub mod Puts
+pub mod Opens
+pub mod Drops
+pub mod CommitSteps
+pub mod Commits
+pub mod Readers
+pub mod Behind
