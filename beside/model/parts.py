@@ -315,9 +315,8 @@ def staged_run(directory, file_size, staged, more):
     The unwritten bytes lie between base and length; where damaged areas say otherwise they count too, so that
     every file that a write will make was counted.
     """
-    offset = unwritten_from(staged)
-    base = min(staged.base, offset)
-    return Run(directory, file_size, base, max(staged.len, offset + staged.unwritten) + more)
+    base = min(staged.base, unwritten_from(staged))
+    return Run(directory, file_size, base, max(staged.len + more, staged.unwritten))
 
 
 def lacking(disk, run):

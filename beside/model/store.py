@@ -143,7 +143,9 @@ class Store:
         ring = parts.prepare_write(areas.get_ring(session, tape), staged.len)
         offset, earlier = self.unwritten(tape, ring, staged)
         to_files, unwritten = parts.sent(ring, earlier, appended)
-        parts.write_run(disk, session, directory, handle.file_size, offset, to_files)
+        parts.write_run(disk, session, directory, handle.file_size, offset, to_files[: len(earlier)])
+        # Apart, since in damaged areas they may not lie side by side.
+        parts.write_run(disk, session, directory, handle.file_size, staged.len, to_files[len(earlier) :])
         # Of an append longer than the cache only the last bytes come into it.
         pushed = appended[parts.above(len(appended), ring.capacity) :]
         areas.push_ring(session, tape, ring, pushed)
@@ -209,15 +211,21 @@ class Store:
         head = areas.get_head(session)
         touched = [tape for tape in TAPES if self.is_touched(tape)]
         appends = writer.kind is Kind.APPEND
+        tapes = self.next_list(appends)
+        # Damaged areas alone have such a list; no commit writes what no store would read.
+        whole = len(tapes) == sum(self.published(tape, appends).listed for tape in TAPES)
+        refuse(1, not (whole and parts.is_storable(tapes)))
         refuse(18, head.epoch == MOST)
         refuse(16, any(self.directory_of(tape) is None for tape in touched))
         refuse(15, appends and parts.no_slot(disk, self.staged_runs()))
 
-        areas.copy_view(session, Session.WRITER, Session.LIST)
-        for tape in touched:
-            self.publish(tape, appends)
+        if appends:
+            for tape in touched:
+                self.flush(tape)
+        for tape in TAPES:
+            areas.put_view(session, Session.LIST, tape, self.published(tape, appends))
         epoch = head.epoch + 1
-        areas.write_side(disk, head.side, parts.encode_record(epoch, self.listed_tapes()))
+        areas.write_side(disk, head.side, parts.encode_record(epoch, tapes))
         other = areas.Side(1 - head.side)
         areas.put_head(session, head._replace(epoch=epoch, cut=not appends, side=other))
         if appends:
@@ -225,6 +233,9 @@ class Store:
             oldest = min(self.reader_epochs(), default=epoch)
             for tape in touched:
                 self.remove_out_of_range(tape, writer.epoch, oldest)
+        else:
+            for tape in touched:
+                self.cut_tape(tape)
         self.close_writer()
         return epoch
 
@@ -314,7 +325,7 @@ class Store:
         if listed or directory is not None:
             return False
         names = {areas.directory_name(disk, place) for place in range(Disk.MOST_DIRECTORIES)}
-        names |= {areas.tape_name(session, t) for t in TAPES if self.seen(Session.WRITER, t).listed}
+        names |= {areas.tape_name(session, t) for t in TAPES if areas.get_view(session, Session.WRITER, t).listed}
         return len(names - {b""}) >= Disk.MOST_DIRECTORIES or areas.find_directory(disk, b"") is None
 
     # ---- what an open does to a tape's directory
@@ -328,33 +339,45 @@ class Store:
 
     def clean_directory(self, name, directory):
         """Of a name absent from the view: made at once, not at commit, or emptied."""
+        place = areas.find_directory(self.disk, b"") if directory is None else directory
+        # Only damaged areas say that a free place has files.
+        parts.untrack(self.disk, self.session, place)
+        areas.empty_directory(self.disk, place)
         if directory is None:
             areas.add_directory(self.disk, name)
-        else:
-            parts.untrack(self.disk, self.session, directory)
-            areas.empty_directory(self.disk, directory)
 
     # ---- what a commit and a drop do to one tape, and to the writer's place
 
-    def publish(self, tape, appends):
+    def published(self, tape, appends):
+        """The view of a tape that a commit publishes; a truncate's start is not above its length."""
+        if not self.is_touched(tape):
+            return areas.get_view(self.session, Session.WRITER, tape)
+        staged = areas.get_staged(self.session, tape)
+        return View(True, staged.len, staged.start if appends else min(staged.start, staged.len))
+
+    def next_list(self, appends):
+        """The list as the record has it: by name in byte order; of doubles (damaged) the first place counts."""
+        views = {}
+        for tape in TAPES:
+            view = self.published(tape, appends)
+            if view.listed:
+                views.setdefault(areas.tape_name(self.session, tape), view)
+        views.pop(b"", None)
+        return [parts.TapeMetadata(name, view.len, view.start) for name, view in sorted(views.items())]
+
+    def flush(self, tape):
         session = self.session
         staged = areas.get_staged(session, tape)
-        ring = areas.get_ring(session, tape)
+        offset, lacking = self.unwritten(tape, areas.get_ring(session, tape), staged)
         file_size = areas.get_handle(session, tape).file_size
-        directory = self.directory_of(tape)
-        if appends:
-            offset, lacking = self.unwritten(tape, ring, staged)
-            parts.write_run(self.disk, session, directory, file_size, offset, lacking)
-            areas.put_view(session, Session.LIST, tape, View(True, staged.len, staged.start))
-        else:
-            areas.put_ring(session, tape, parts.truncate(ring, staged.len))
-            areas.put_view(session, Session.LIST, tape, View(True, staged.len, min(staged.start, staged.len)))
-            parts.clear_from(self.disk, session, directory, parts.file_of(file_size, staged.len))
+        parts.write_run(self.disk, session, self.directory_of(tape), file_size, offset, lacking)
 
-    def listed_tapes(self):
-        """The list as the record has it: by name in byte order."""
-        views = [(areas.tape_name(self.session, t), areas.get_view(self.session, Session.LIST, t)) for t in TAPES]
-        return sorted(parts.TapeMetadata(name, view.len, view.start) for name, view in views if view.listed)
+    def cut_tape(self, tape):
+        session = self.session
+        length = areas.get_staged(session, tape).len
+        areas.put_ring(session, tape, parts.truncate(areas.get_ring(session, tape), length))
+        file_size = areas.get_handle(session, tape).file_size
+        parts.clear_from(self.disk, session, self.directory_of(tape), parts.file_of(file_size, length))
 
     def remove_out_of_range(self, tape, began, oldest):
         file_size = areas.get_handle(self.session, tape).file_size

@@ -11,7 +11,7 @@ mod refusal;
 mod session;
 mod tape;
 
-pub use disk::Scratch;
+pub use disk::{Scratch, hex};
 pub use line::{Call, LARGEST_READ, LONGEST_LINE, Unreadable};
 pub use oracle::{Oracle, Reply, answers};
 pub use record::{Listed, Record, choose, decode_list};

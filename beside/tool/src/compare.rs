@@ -21,42 +21,82 @@ fn script_of(seed: u64) -> Script {
     Script::generate(seed, length)
 }
 
+/// What a driver prints for each line.
+#[derive(Clone, Copy, Debug, PartialEq, Eq)]
+pub enum Printed {
+    Replies,
+    /// And the whole disk after each reply.
+    Disks,
+}
+
+impl Printed {
+    /// All that the oracle prints for a script.
+    fn wanted(self, script: &[u8]) -> String {
+        match self {
+            Self::Replies => answers(script),
+            Self::Disks => with_disk(script),
+        }
+    }
+}
+
 /// Runs the scripts of seeds `seed..seed + count` through the driver; true if none differs.
-pub fn with_driver(count: u64, seed: u64, command: &str) -> io::Result<bool> {
+pub fn with_driver(count: u64, seed: u64, command: &str, printed: Printed) -> io::Result<bool> {
     let driver = Driver::new(command);
     let (begun, mut lines) = (Instant::now(), 0);
     for seed in seed..seed + count {
         let script = script_of(seed);
-        if driver.answers(&script.text())? != script.answers().as_bytes() {
+        let text = script.text();
+        let wanted = match printed {
+            Printed::Replies => script.answers(),
+            Printed::Disks => with_disk(&text),
+        };
+        if driver.answers(&text)? != wanted.as_bytes() {
             println!("seed {seed}: the driver differs from the Rust");
-            show_difference(&script, &driver)?;
+            show_difference(&script, &driver, printed)?;
             return Ok(false);
         }
         lines += script.lines.len();
     }
-    println!("{count} scripts, {lines} lines, no difference, {:.1} s", begun.elapsed().as_secs_f64());
+    let disks = if printed == Printed::Disks { " with their disks" } else { "" };
+    println!("{count} scripts, {lines} lines{disks}, no difference, {:.1} s", begun.elapsed().as_secs_f64());
     Ok(true)
 }
 
-fn show_difference(script: &Script, driver: &Driver) -> io::Result<()> {
+fn show_difference(script: &Script, driver: &Driver, printed: Printed) -> io::Result<()> {
     let differs = |lines: &[Vec<u8>]| {
         let text = joined(lines);
-        driver.answers(&text).is_ok_and(|given| given != answers(&text).as_bytes())
+        driver.answers(&text).is_ok_and(|given| given != printed.wanted(&text).as_bytes())
     };
     let lines = shrink(&script.lines, differs);
     let text = joined(&lines);
-    let (wanted, given) = (answers(&text), driver.answers(&text)?);
+    let (wanted, given) = (printed.wanted(&text), driver.answers(&text)?);
     let given = String::from_utf8_lossy(&given);
+    let (wanted, given) = (by_line(&wanted), by_line(&given));
     println!("the smallest script found, `>` for tab, with the oracle's and the driver's replies:");
     for (index, line) in lines.iter().enumerate() {
         let line = String::from_utf8_lossy(line).replace('\t', ">");
-        let (wanted, given) = (wanted.lines().nth(index), given.lines().nth(index).unwrap_or("nothing"));
-        let wanted = wanted.expect("a reply for each line");
+        let given = given.get(index).map_or(["nothing"].as_slice(), Vec::as_slice);
+        let wanted = &wanted[index];
         let mark = if wanted == given { "  " } else { "* " };
-        println!("{mark}{line}\t=> {}\t{}", wanted.replace('\t', ">"), given.replace('\t', ">"));
+        println!("{mark}{line}\t=> {}\t{}", wanted[0].replace('\t', ">"), given[0].replace('\t', ">"));
+        wanted[1..].iter().filter(|row| !given.contains(row)).for_each(|row| println!("*   the oracle's disk: {row}"));
+        given[1..].iter().filter(|row| !wanted.contains(row)).for_each(|row| println!("*   the driver's disk: {row}"));
     }
-    given.lines().skip(lines.len()).for_each(|more| println!("* {more}"));
+    given.iter().skip(lines.len()).flatten().for_each(|more| println!("* {more}"));
     Ok(())
+}
+
+/// What was printed for each line: the reply, then the rows of the disk.
+fn by_line(printed: &str) -> Vec<Vec<&str>> {
+    let mut lines: Vec<Vec<&str>> = Vec::new();
+    for row in printed.lines() {
+        let of_disk = ["left\t", "right\t", "directory\t", "file\t"].iter().any(|word| row.starts_with(word));
+        match lines.last_mut() {
+            Some(line) if of_disk => line.push(row),
+            _ => lines.push(vec![row]),
+        }
+    }
+    lines
 }
 
 /// Generates the scripts without a driver and runs each a second time: no panic, the same replies, and the disk keeps its rules; true
@@ -115,13 +155,21 @@ pub fn cases(directory: &Path) -> io::Result<bool> {
     Ok(wrong == 0)
 }
 
-/// The driver on each case: its replies are `NAME.out`; true if all come out.
-pub fn cases_with_driver(directory: &Path, command: &str) -> io::Result<bool> {
+/// The driver on each case: its replies are `NAME.out`, or with the disk `NAME.disk`, the oracle's where there is none; true if all come
+/// out.
+pub fn cases_with_driver(directory: &Path, command: &str, printed: Printed) -> io::Result<bool> {
     let driver = Driver::new(command);
     let inputs = inputs(directory)?;
     let mut wrong = 0;
     for input in &inputs {
-        if driver.answers(&fs::read(input)?)? != fs::read(input.with_extension("out"))? {
+        let script = fs::read(input)?;
+        let wanted = match printed {
+            Printed::Replies => fs::read(input.with_extension("out"))?,
+            Printed::Disks => {
+                fs::read(input.with_extension("disk")).unwrap_or_else(|_| with_disk(&script).into_bytes())
+            }
+        };
+        if driver.answers(&script)? != wanted {
             println!("{}: not as expected", input.display());
             wrong += 1;
         }

@@ -35,7 +35,7 @@ impl Script {
         while script.lines.len() < length {
             let line = generator.next_line();
             let reply = oracle.answer(&line);
-            generator.known.learn(&line, &reply);
+            generator.learn(&line, &reply);
             script.lines.push(line);
             script.replies.push(reply);
         }
@@ -108,6 +108,11 @@ impl Generator {
             Move::DropWriter => self.end("drop"),
             Move::DropReader => self.drop_reader(),
         }
+    }
+
+    /// Takes in what became of a line, for those that follow.
+    pub fn learn(&mut self, line: &[u8], reply: &Reply) {
+        self.known.learn(line, reply);
     }
 
     fn choose_move(&mut self) -> Move {

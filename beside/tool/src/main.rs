@@ -1,16 +1,4 @@
-//! Scripts for the driver, and the oracle beside it.
-
-mod compare;
-mod coverage;
-mod disk_rules;
-mod driver;
-mod generator;
-mod known;
-mod profile;
-mod promise;
-mod random;
-mod shrink;
-mod wild;
+//! The program `beside`: its command line.
 
 use std::{
     io::{self, Write},
@@ -18,12 +6,17 @@ use std::{
     process::ExitCode,
 };
 
-use generator::Script;
+use beside::{
+    Script,
+    compare::{self, Printed},
+    coverage, promise,
+};
 
 const USAGE: &str = "usage:
   beside gen SEED LINES                            prints a script
   beside compare N [--seed S] [--driver COMMAND]   the cases and N scripts through the driver, compared with the oracle;
-           [--cases DIRECTORY]                     without a driver, through the oracle, the scripts twice
+           [--cases DIRECTORY] [--disks]           without a driver, through the oracle, the scripts twice; with --disks the
+                                                   driver prints the disk after each reply, as `oracle --disk` does
   beside coverage N [--seed S]                     how often each answer comes in N scripts
   beside promise N [--seed S]                      N scripts through the oracle, reads and waits beside the promise";
 
@@ -31,12 +24,17 @@ struct Options {
     seed: u64,
     driver: Option<String>,
     cases: PathBuf,
+    printed: Printed,
 }
 
 impl Options {
     fn parse(mut words: impl Iterator<Item = String>) -> Option<Self> {
-        let mut options = Self { seed: 1, driver: None, cases: PathBuf::from("cases") };
+        let mut options = Self { seed: 1, driver: None, cases: PathBuf::from("cases"), printed: Printed::Replies };
         while let Some(word) = words.next() {
+            if word == "--disks" {
+                options.printed = Printed::Disks;
+                continue;
+            }
             let value = words.next()?;
             match word.as_str() {
                 "--seed" => options.seed = value.parse().ok()?,
@@ -64,14 +62,16 @@ fn run() -> io::Result<Option<bool>> {
     let Some(options) = Options::parse(words) else {
         return Ok(None);
     };
-    Ok(match (command.as_str(), options.driver) {
-        ("promise", None) => Some(promise::tried(number, options.seed)),
-        ("coverage", None) => Some(coverage::print(number, options.seed)),
-        ("compare", Some(driver)) => {
-            let cases = compare::cases_with_driver(&options.cases, &driver)?;
-            Some(compare::with_driver(number, options.seed, &driver)? && cases)
+    Ok(match (command.as_str(), options.driver, options.printed) {
+        ("promise", None, Printed::Replies) => Some(promise::tried(number, options.seed)),
+        ("coverage", None, Printed::Replies) => Some(coverage::print(number, options.seed)),
+        ("compare", Some(driver), printed) => {
+            let cases = compare::cases_with_driver(&options.cases, &driver, printed)?;
+            Some(compare::with_driver(number, options.seed, &driver, printed)? && cases)
         }
-        ("compare", None) => Some(compare::cases(&options.cases)? && compare::alone(number, options.seed)),
+        ("compare", None, Printed::Replies) => {
+            Some(compare::cases(&options.cases)? && compare::alone(number, options.seed))
+        }
         _ => None,
     })
 }
