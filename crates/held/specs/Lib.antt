@@ -1,0 +1,9 @@
+pub mod Held
+pub mod Page
+pub mod FlushLaws
+pub mod PutLaws
+pub mod SettleLaws
+pub mod TrimLaws
+pub mod TakeBackLaws
+pub mod OpenLaws
+pub mod ReadLaws

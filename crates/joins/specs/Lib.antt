@@ -1,0 +1,14 @@
+pub mod FilesAt
+pub mod Covers
+pub mod Slots
+pub mod Making
+pub mod Setting
+pub mod Writes
+pub mod Sends
+pub mod Tracks
+pub mod Freed
+pub mod Ripe
+pub mod Removes
+pub mod Directories
+pub mod Caches
+pub mod Fetches

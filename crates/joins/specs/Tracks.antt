@@ -1,0 +1,114 @@
+-- What a step in one directory does, as its callers see it; and the first of these steps, a change of tracking, which is document 01's at every number of
+-- that directory. Assumes nothing.
+use mathlib.Core.Path.{_≡_, refl, ap, fun-ext, _∙_}
+use mathlib.Core.Logic.{_≢_}
+use mathlib.Core.List.{List}
+use Prim.Native.Nat.{ℕ, _+_, _≤_, _<_, _^_}
+use native.Mathlib.Omega.{arith}
+use borrow.Author.Tests.{lt-ltb, le-ltb, ne-eqb}
+use Rattle.octets.specs.Cases.{order}
+use Rattle.octets.specs.Words.{table-out}
+use Rattle.layout.specs.Disk.{slots}
+use Rattle.components.specs.Files.{Files, track, markBelow, clearFrom}
+use Rattle.held.specs.Held.{forget}
+use Rattle.disk.specs.Steps.{files}
+use Rattle.disk.specs.Meaning.{free, slotOf, diskOf}
+use Rattle.disk.specs.MeaningLaws.{owner-in, number-in}
+use Rattle.session.specs.Meaning.{Session, sessionOf}
+use Rattle.session.specs.KeepLaws.{begun-ready}
+use Rattle.session.specs.declared.tracking.Tracking.{Tracking}
+use Rattle.rolling_tape.specs.Room.{onDisk}
+use Rattle.rolling_tape.specs.Removal.{Areas, areas}
+use Rattle.rolling_tape.specs.Tracking.{retracked}
+use Rattle.rolling_tape.specs.TrackingLaws.{ChangeFits, begun-retracked, bytes-retracked, retracks, session-retracked}
+use Rattle.rolling_tape.specs.Files.{filesOf, changedIn, changedFile, files-changed, files-unchanged}
+use Rattle.rolling_tape.specs.declared.tracking.Change.{Change}
+use Rattle.rolling_tape.specs.declared.tracking.Change.the-variants.{TrackUpTo, MarkBelow, ClearFrom, UntrackAll}
+use Rattle.ending.specs.StepLaws.{Whole}
+use Rattle.joins.specs.FilesAt.{filesAt, Once}
+
+-- ---- a step in the files of one directory
+
+-- the directory in the place has these files; every other directory has its own; no file is made
+pub record Changed (a b : Areas) (place : ℕ) (f : Files) : Type 0 where
+  pub own : filesAt b place ≡ f
+  pub other : (q : ℕ) → q ≢ place → filesAt b q ≡ filesAt a q
+  pub once : Once (b .disk)
+  pub fewer : files (b .disk) ≤ files (a .disk)
+  pub there : (q : ℕ) → q ≢ place → (j : ℕ) → onDisk (b .disk) q j ≡ onDisk (a .disk) q j
+
+-- two steps, where the second says its files in the words of the first's
+pub changed-then : (a b c : Areas) (place : ℕ) (f : Files) (g : Files → Files) → Changed a b place f → Changed b c place (g (filesAt b place))
+    → Changed a c place (g f)
+changed-then a b c place f g p q =
+    let less = p .fewer in
+    let more = q .fewer in
+    record {
+      own = q .own ∙ ap g (p .own);
+      other = λ n d. q .other n d ∙ p .other n d;
+      once = q .once;
+      fewer = omega arith;
+      there = λ n d j. q .there n d j ∙ p .there n d j;
+    }
+
+-- ---- a change of tracking
+
+-- said of the bytes and of the meaning, it is the same: a slot beyond the disk's is nobody's
+same-change : (d : List ℕ) (place : ℕ) (c : Change) (rows : ℕ → Tracking) → retracks d place c rows ≡ changedIn (diskOf d) place c rows
+unfolding diskOf
+same-change d place c rows =
+    fun-ext
+    (λ (i : ℕ).
+    order i (slots d)
+    (λ (l : i < slots d). rw (lt-ltb i (slots d) l, owner-in d i l, number-in d i l))
+    (λ (l : slots d ≤ i). rw (le-ltb i (slots d) l, table-out (slots d) free (slotOf d) i l, ne-eqb 0 (place + 1) (λ q. omega arith))))
+
+-- both areas, after it
+abbrev pub retrackedAt : Areas → ℕ → Change → Areas
+retrackedAt a place c = areas (a .disk) (retracked (a .disk) (a .session) place c)
+
+module _ (a : Areas) (place : ℕ) (c : Change) (whole : Whole a) (fits : ChangeFits c) where
+  -- the rows of tracking, of the meaning
+  pub trackings-retracked : sessionOf (retrackedAt a place c .session) .tracking ≡ changedIn (diskOf (a .disk)) place c (sessionOf (a .session) .tracking)
+  trackings-retracked =
+      ap (λ (m : Session). m .tracking) (session-retracked (a .disk) (a .session) place c (whole .sound .head .few) (begun-ready _ (whole .begun)) (whole .bytes) fits)
+      ∙ same-change (a .disk) place c (sessionOf (a .session) .tracking)
+
+  pub own-retracked : filesAt (retrackedAt a place c) place ≡ λ k. changedFile c k (filesAt a place)
+  own-retracked =
+      ap (λ (t : ℕ → Tracking). filesOf (diskOf (a .disk)) t place) trackings-retracked
+      ∙ fun-ext (λ (k : ℕ). files-changed (diskOf (a .disk)) (sessionOf (a .session) .tracking) place c k)
+
+  pub other-retracked : (q : ℕ) → q ≢ place → filesAt (retrackedAt a place c) q ≡ filesAt a q
+  other-retracked q apart =
+      ap (λ (t : ℕ → Tracking). filesOf (diskOf (a .disk)) t q) trackings-retracked
+      ∙ fun-ext (λ (k : ℕ). files-unchanged (diskOf (a .disk)) (sessionOf (a .session) .tracking) place q c k apart)
+
+  pub whole-retracked : Whole (retrackedAt a place c)
+  whole-retracked =
+      let few = whole .sound .head .few in
+      record {
+        sound = whole .sound;
+        begun = begun-retracked (a .disk) (a .session) place c few (whole .begun);
+        bytes = bytes-retracked (a .disk) (a .session) place c few (whole .begun .long) (whole .bytes);
+      }
+
+  pub changed-retracked : Once (a .disk) → Changed a (retrackedAt a place c) place (λ k. changedFile c k (filesAt a place))
+  changed-retracked once =
+      record { own = own-retracked; other = other-retracked; once = once; fewer = omega arith; there = λ q d j. refl }
+
+-- ---- each change by its name
+
+module _ (a : Areas) (place : ℕ) (whole : Whole a) (once : Once (a .disk)) where
+  pub changed-track : (n : ℕ) → Changed a (retrackedAt a place (TrackUpTo n)) place (track n (filesAt a place))
+  changed-track n = changed-retracked a place (TrackUpTo n) whole (record { epoch = omega arith }) once
+
+  pub changed-mark : (n e : ℕ) → e < 2 ^ 64 → Changed a (retrackedAt a place (MarkBelow n e)) place (markBelow n e (filesAt a place))
+  changed-mark n e small = changed-retracked a place (MarkBelow n e) whole (record { epoch = small }) once
+
+  pub changed-clear : (n : ℕ) → Changed a (retrackedAt a place (ClearFrom n)) place (clearFrom n (filesAt a place))
+  changed-clear n = changed-retracked a place (ClearFrom n) whole (record { epoch = omega arith }) once
+
+  pub changed-forget : Changed a (retrackedAt a place UntrackAll) place (forget (filesAt a place))
+  unfolding forget
+  changed-forget = changed-retracked a place UntrackAll whole (record { epoch = omega arith }) once

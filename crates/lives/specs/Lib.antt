@@ -1,0 +1,12 @@
+pub mod Life
+pub mod Told
+pub mod Invariant
+pub mod StepsBegin
+pub mod StepsStaged
+pub mod StepsOpen
+pub mod StepsCommit
+pub mod StepsDrop
+pub mod Steps
+pub mod Reads
+pub mod Waits
+pub mod Examples

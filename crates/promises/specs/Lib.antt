@@ -1,0 +1,16 @@
+pub mod Calls
+pub mod Told
+pub mod Promise
+pub mod Refused
+pub mod Holds
+pub mod Standing
+pub mod Transactions
+pub mod Sessions
+pub mod Opening
+pub mod Since
+pub mod Commits
+pub mod Handles
+pub mod Drops
+pub mod Steps
+pub mod Runs
+pub mod Reading

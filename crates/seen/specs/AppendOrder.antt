@@ -1,0 +1,224 @@
+-- An append's commit that is served leaves the areas in order, and handles as they were. Assumes nothing.
+use mathlib.Core.Path.{_≡_, refl, sym, ap, subst, _∙_}
+use mathlib.Core.Logic.{_≢_}
+use mathlib.Core.Bool.{true, false, true≢false}
+use mathlib.Core.List.{List}
+use Prim.Native.Nat.{ℕ, _+_, _≤_, _<_, _^_}
+use native.Mathlib.Omega.{arith}
+use borrow.Author.Tests.{eq-eqb, ne-eqb}
+use lib.ListN.{length}
+use Rattle.octets.specs.Cases.{decide, equal, order}
+use Rattle.octets.specs.Number.{Bytes}
+use Rattle.octets.specs.declared.Found.{Found}
+use Rattle.octets.specs.declared.Found.the-variants.{At, Nothing}
+use Rattle.answers.specs.Answers.{codeOf}
+use Rattle.answers.specs.Outcome.{Outcome}
+use Rattle.metadata.specs.Struct.{storable}
+use Rattle.layout.specs.Disk.{directories}
+use Rattle.layout.specs.Names.{name, findName}
+use Rattle.layout.specs.Session.{namesAt, handleNumber, entrySize}
+use Rattle.session.specs.declared.head.Head.{Head}
+use Rattle.session.specs.declared.tape_rows.Handle.{Handle}
+use Rattle.session.specs.declared.views.View.{View}
+use Rattle.session.specs.Rows.{headOf, viewOf, handleOf, ringOf, ringBytes, stagedOf}
+use Rattle.beginning.specs.Laws.{refusal-some}
+use Rattle.beginning.specs.Transactions.{isOpenAt}
+use Rattle.staging.specs.Seeing.{writes}
+use Rattle.appending.specs.Room.{noRoom}
+use Rattle.ending.specs.CommitDurable.{commit-level}
+use Rattle.ending.specs.CommitLaws.{theList, Committed, commit-cases, commit-served}
+use Rattle.ending.specs.CommitMeaning.{Published, writes-cuts, commit-published}
+use Rattle.ending.specs.CommitWays.{epoch-fits}
+use Rattle.ending.specs.Committing.{appended, commitCall}
+use Rattle.ending.specs.Listing.{isTouched, published}
+use Rattle.touches.specs.CommitSteps.{appendParts}
+use Rattle.touches.specs.Commits.{CommitLeaves, commit-touches-session, commit-leaves-session, commit-leaves-disk}
+use Rattle.touches.specs.Parts.{Stays, Touches, bookkeepings, stays}
+use Rattle.touches.specs.Rows.{row-stays, handle-stays, ring-stays, cache-stays, name-stays}
+use Rattle.joins.specs.FilesAt.{Once}
+use Rattle.seen.specs.Seen.{placeOf, handleIn, entryIn, Handled}
+use Rattle.seen.specs.Orderly.{Orderly}
+use Rattle.seen.specs.Places.{found-low, find-same}
+use Rattle.seen.specs.Frames.{number-row, open-row}
+use Rattle.seen.specs.Lists.{commit-open, commit-recorded}
+use Rattle.seen.specs.Flushes.{Inside}
+use Rattle.seen.specs.AppendFiles.{settled-once}
+
+-- ---- what held when it was served
+
+pub record Appends (d s : List ℕ) (o : Outcome) : Type 0 where
+  pub good : storable (theList s false) ≡ true
+  pub more : headOf s .epoch + 1 < 2 ^ 64
+  pub room : noRoom d s 8 0 ≡ false
+  pub is : o ≡ appended d s (theList s false)
+
+pub commit-appends : (d s : List ℕ) → Bytes s → (k : ℕ) → writes s k ≡ true → codeOf (commitCall d s k .answer) ≡ 0 → Appends d s (commitCall d s k)
+commit-appends d s bytes k w =
+    commit-cases (λ (o : Outcome). codeOf (o .answer) ≡ 0 → Appends d s o) d s (λ why e. absurd (refusal-some why e)) k
+    (λ ok _ v g room e. record { good = g .good; more = epoch-fits s bytes (g .more); room = room; is = refl })
+    (λ ok c v g e. absurd (true≢false (sym c ∙ writes-cuts s k w)))
+
+-- a handle's row
+entry-row : (s u : List ℕ) (p : ℕ) → handleOf u p ≡ handleOf s p → entrySize u p ≡ entrySize s p
+unfolding handleOf
+entry-row s u p e = ap (λ (h : Handle). h .entry) e
+
+-- what is staged is staged of an open tape
+pub touched-staged : (d s : List ℕ) → Orderly d s → (p : ℕ) → p < 8 → isTouched s p ≡ stagedOf s p .touched
+unfolding isTouched
+touched-staged d s o p low =
+    equal (handleNumber s p) 0
+    (λ (e : handleNumber s p ≡ 0). rw (eq-eqb (handleNumber s p) 0 e, o .shut-untouched p low e))
+    (λ (held : handleNumber s p ≢ 0). rw (ne-eqb (handleNumber s p) 0 held))
+
+module _ (d s : List ℕ) (o : Orderly d s) (k : ℕ) (w : writes s k ≡ true) (served : codeOf (commitCall d s k .answer) ≡ 0) where
+  abbrev e : List ℕ
+  e = commitCall d s k .disk
+
+  abbrev u : List ℕ
+  u = commitCall d s k .session
+
+  running : isOpenAt s 16 ≡ true
+  running = commit-open d s k served
+
+  kept : Committed d s (commitCall d s k)
+  kept = commit-served d s (o .session-bytes) k served
+
+  pub left : Published d s false (commitCall d s k)
+  left = rw (writes-cuts s k w) at (commit-published d s (o .session-bytes) k served)
+
+  leaves : CommitLeaves s u
+  leaves = commit-leaves-session d s k
+
+  touches : Touches appendParts s u
+  touches = rw w at (commit-touches-session d s k)
+
+  -- ---- what is as before
+
+  pub same-folder : (i : ℕ) → i < 8 → name e directories i ≡ name d directories i
+  same-folder i l = name-stays 32 288 d e (commit-leaves-disk d s k .directories-stay) (kept .long-disk) directories i (o .disk .names .short i l) (omega arith) (omega arith)
+
+  module _ (p : ℕ) (low : p < 8) where
+    pub same-name : name u namesAt p ≡ name s namesAt p
+    same-name = name-stays 48 304 s u (leaves .names-stay) (kept .long-session) namesAt p (o .session .names .short p low) (omega arith) (omega arith)
+
+    pub same-handle : handleOf u p ≡ handleOf s p
+    same-handle = handle-stays _ _ s u (row-stays 4168 24 96 8 s u (leaves .handles-stay) p low) p (omega arith) (omega arith)
+
+    pub same-number : handleNumber u p ≡ handleNumber s p
+    same-number = number-row s u p same-handle
+
+    pub same-ring : ringOf u p ≡ ringOf s p
+    same-ring =
+        let books : Stays bookkeepings s u = stays appendParts bookkeepings s u touches (λ i h. search arith) in
+        ring-stays _ _ s u (row-stays 4192 32 96 8 s u books p low) p (omega arith) (omega arith)
+
+    pub same-cache : ringBytes u p ≡ ringBytes s p
+    same-cache = cache-stays 5960 38728 s u (leaves .rings-stay) (kept .long-session) p (omega arith) (omega arith)
+
+  pub same-place : (n : List ℕ) → placeOf u n ≡ placeOf s n
+  same-place n = find-same s u namesAt namesAt n same-name
+
+  pub same-directory : (n : List ℕ) → findName e directories n ≡ findName d directories n
+  same-directory n = find-same d e directories directories n same-folder
+
+  pub same-open : (t : ℕ) → t < 16 → isOpenAt u t ≡ isOpenAt s t
+  same-open t l = open-row s u t (left .readers t l)
+
+  pub shut : isOpenAt u 16 ≡ false
+  unfolding isOpenAt
+  shut = rw (left .shut)
+
+  -- ---- what is published
+
+  published-touched : (p : ℕ) → isTouched s p ≡ true → published s false p .listed ≡ true
+  unfolding published
+  published-touched p t = rw t
+
+  published-untouched : (p : ℕ) → p < 8 → isTouched s p ≡ false → published s false p ≡ viewOf s 17 p
+  unfolding published
+  published-untouched p low t = rw t (o .writer-view running p low)
+
+  still-listed : (p : ℕ) → p < 8 → viewOf s 17 p .listed ≡ true → published s false p .listed ≡ true
+  still-listed p low listed =
+      decide (isTouched s p) (published-touched p) (λ t. ap (λ (v : View). v .listed) (published-untouched p low t) ∙ listed)
+
+  -- every open tape is
+  open-listed : (p : ℕ) → p < 8 → handleNumber s p ≢ 0 → published s false p .listed ≡ true
+  open-listed p low held =
+      decide (viewOf s 17 p .listed) (still-listed p low)
+      (λ made. published-touched p (touched-staged d s o p low ∙ o .made-touched p low held made))
+
+  free-unpublished : (p : ℕ) → p < 8 → length (name s namesAt p) ≡ 0 → published s false p .listed ≡ false
+  free-unpublished p low free =
+      ap (λ (v : View). v .listed)
+      (published-untouched p low (touched-staged d s o p low ∙ o .shut-untouched p low (o .free-shut p low free)))
+      ∙ o .free-unlisted p low free
+
+  -- ---- the areas are in order
+
+  -- who is open is a reader
+  reader-place : (t : ℕ) → t < 17 → isOpenAt u t ≡ true → t < 16
+  reader-place t l opened =
+      order t 16 (λ m. m)
+      (λ (m : 16 ≤ t).
+      let last : t ≡ 16 = omega arith in
+      absurd (true≢false (sym opened ∙ ap (isOpenAt u) last ∙ shut)))
+
+  was-open : (t : ℕ) → t < 16 → isOpenAt u t ≡ true → isOpenAt s t ≡ true
+  was-open t l opened = sym (same-open t l) ∙ opened
+
+  pub commit-append-orderly : Inside s → Orderly e u
+  commit-append-orderly inside =
+      let a = commit-appends d s (o .session-bytes) k w served in
+      let last : headOf u .«last_handle» ≡ headOf s .«last_handle» = ap (λ (h : Head). h .«last_handle») (left .head) in
+      let newest : headOf u .«last_transaction» ≡ headOf s .«last_transaction» = ap (λ (h : Head). h .«last_transaction») (left .head) in
+      let listed : (p : ℕ) → p < 8 → viewOf u 17 p .listed ≡ published s false p .listed = λ p low. ap (λ (v : View). v .listed) (left .list p low) in
+      record {
+        disk = kept .sound;
+        session = kept .begun;
+        disk-bytes = kept .bytes-disk (o .disk-bytes);
+        session-bytes = kept .bytes-session;
+        once = subst (λ (x : Outcome). Once (x .disk)) (sym (a .is)) (settled-once d s o (a .more) (a .good) inside (a .room));
+        names = λ p q lp lq some same. o .names p q lp lq (rw (same-name p lp) at some) (sym (same-name p lp) ∙ same ∙ same-name q lq);
+        folders = λ i j li lj some same. o .folders i j li lj (rw (same-folder i li) at some) (sym (same-folder i li) ∙ same ∙ same-folder j lj);
+        handles = λ p q lp lq some same. o .handles p q lp lq (λ z. some (same-number p lp ∙ z)) (sym (same-number p lp) ∙ same ∙ same-number q lq);
+        handle-given = λ p lp. rw (same-number p lp, last) (o .handle-given p lp);
+        numbers = λ t v lt lv ot ov same.
+            let mt = reader-place t lt ot in
+            let mv = reader-place v lv ov in
+            o .numbers t v lt lv (was-open t mt ot) (was-open v mv ov) (rw (left .readers t mt, left .readers v mv) at same);
+        number-given = λ t lt ot.
+            let mt = reader-place t lt ot in
+            rw (left .readers t mt, newest) (o .number-given t lt (was-open t mt ot));
+        free-shut = λ p lp free. same-number p lp ∙ o .free-shut p lp (rw (same-name p lp) at free);
+        free-unlisted = λ p lp free. listed p lp ∙ free-unpublished p lp (rw (same-name p lp) at free);
+        shut-untouched = λ p lp _. rw (left .unstaged p lp);
+        idle-untouched = λ _ p lp. rw (left .unstaged p lp);
+        views = λ t lt ot p lp shown.
+            listed p lp ∙ still-listed p lp (o .views t lt (was-open t lt ot) p lp (rw (left .views t p (omega arith) lp) at shown));
+        writer-view = λ ot p lp. absurd (true≢false (sym ot ∙ shut));
+        writer-epoch = λ ot. absurd (true≢false (sym ot ∙ shut));
+        made-append = λ p lp held made. absurd (true≢false (sym (open-listed p lp (λ z. held (same-number p lp ∙ z))) ∙ sym (listed p lp) ∙ made));
+        made-touched = λ p lp held made. absurd (true≢false (sym (open-listed p lp (λ z. held (same-number p lp ∙ z))) ∙ sym (listed p lp) ∙ made));
+        folder = λ p lp held. rw (same-name p lp, same-directory (name s namesAt p)) (o .folder p lp (λ z. held (same-number p lp ∙ z)));
+        recorded = commit-recorded d s o k served;
+        level = commit-level d s (o .session-bytes) k served;
+      }
+
+  -- ---- handles are as before
+
+  pub commit-append-handled : (n : List ℕ) (handle entry : ℕ) → Handled s n handle entry → Handled u n handle entry
+  commit-append-handled n handle entry h =
+      record {
+        number = ap (handleIn u) (same-place n) ∙ numbers (placeOf s n) refl ∙ h .number;
+        size = λ some. ap (entryIn u) (same-place n) ∙ entries (placeOf s n) refl ∙ h .size some;
+      }
+    where
+      numbers : (f : Found) → placeOf s n ≡ f → handleIn u f ≡ handleIn s f
+      numbers (At p) at = same-number p (found-low s namesAt n p at)
+      numbers Nothing at = refl
+
+      entries : (f : Found) → placeOf s n ≡ f → entryIn u f ≡ entryIn s f
+      entries (At p) at = entry-row s u p (same-handle p (found-low s namesAt n p at))
+      entries Nothing at = refl

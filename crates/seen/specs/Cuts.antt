@@ -1,0 +1,317 @@
+-- `truncate_tape`, `drop_entries` and `pop_entry` are the model's `cut`, each to its length. Assumes nothing.
+use mathlib.Core.Path.{_≡_, refl, sym, ap, _∙_, subst}
+use mathlib.Core.Logic.{_≢_}
+use mathlib.Core.Bool.{Bool, true, false, true≢false}
+use mathlib.Core.List.{List}
+use Prim.Native.Nat.{ℕ, _+_, _*_, _-_, _/_, _≤_, _<_}
+use native.Mathlib.Nat.{div-le-self}
+use native.Mathlib.Omega.{arith}
+use borrow.Author.Tests.{eq-eqb, le-leb, eqb-false}
+use lib.Dec.{eqb}
+use lib.ListN.{length}
+use Rattle.octets.specs.Cases.{picked}
+use Rattle.octets.specs.declared.Found.{Found}
+use Rattle.octets.specs.declared.Found.the-variants.{At, Nothing}
+use Rattle.answers.specs.Answers.{codeOf}
+use Rattle.answers.specs.Outcome.{Reading, Popping, popping}
+use Rattle.answers.specs.declared.OneEntry.{OneEntry}
+use Rattle.answers.specs.declared.OneEntry.the-variants.{Entry, NoEntry}
+use Rattle.answers.specs.declared.OneEntry.the-variants as One
+use Rattle.answers.specs.declared.Refusal.{Refusal}
+use Rattle.answers.specs.declared.Refusal.the-variants.{Unusable, Unknown, WriterOpen, Wait, Full, BadName, ReservedName, BadSize, AlreadyOpen, NotWhole, Absent, OutOfBounds, StartPastLength, LongerCut, NoSlot, Missing, BadList, TooLarge}
+use Rattle.components.specs.BoundsLaws.{upTo-true}
+use Rattle.layout.specs.Session.{handleNumber, entrySize}
+use Rattle.session.specs.declared.tape_rows.Staged.{Staged}
+use Rattle.session.specs.Rows.{handleOf, ringOf, ringBytes, putStaged, findHandle}
+use Rattle.beginning.specs.Laws.{refusal-some}
+use Rattle.beginning.specs.Transactions.{usable}
+use Rattle.beginning.specs.Transactions as Real
+use Rattle.staging.specs.Seeing.{seenBy, touchedAs, cuts}
+use Rattle.staging.specs.Cutting.{cutTo, cutCall, dropCall}
+use Rattle.staging.specs.Ways.{handle-found}
+use Rattle.staging.specs.Laws.{Goes, left, cut-cases, drop-cases, cut-done, drop-done, left-within, begun-cutTo, touched-fits, seen-fits}
+use Rattle.appending.specs.CallWays.{seen-touched}
+use Rattle.entries.specs.Reads.{noneFor}
+use Rattle.entries.specs.Popping.{cutAt, popAt, popOn, popIn, popCall}
+use Rattle.entries.specs.Laws.{filled, read-on-cases, last, Poppable, popped, pop-done}
+use Rattle.lives.specs.Told.{Told, Staging}
+use Rattle.lives.specs.Told as T
+use Rattle.lives.specs.Invariant.{Phys, Live, GoodIf, Good, build, eraseW, isAppend, top}
+use Rattle.lives.specs.Life.{Writer, cutting, Store, After, Done, cut, step, then}
+use Rattle.joins.specs.Caches.{Becomes}
+use Rattle.seen.specs.Seen.{placeOf, Seen, Handled}
+use Rattle.seen.specs.Orderly.{Orderly}
+use Rattle.seen.specs.Handles.{handle-own}
+use Rattle.seen.specs.Touching.{OnHandle, Leads, stagedLen, cuts-kind, cuts-as, cuts-open, cut-writer, cut-listed, its-live, its-base, staged, writerWith}
+use Rattle.seen.specs.Stages.{Put, becomes, on-handle, put-own, Finds, entry-of}
+
+-- ---- a cut
+
+model-cut : (st : Store) (k len to : ℕ) → st .writer ≡ cutting k len → st .live ≡ true → st .listed ≡ true → to ≤ len
+    → step (cut k to) st ≡ then (Done 0) (st .last) st (st .readers) (cutting k to) true (st .live) (st .held)
+unfolding step
+model-cut st k len to writer live listed within = rw (writer, eq-eqb k k refl, live, listed, le-leb to len within)
+
+-- in a truncate the files lack nothing
+none-unwritten : (t : Told) (x : Phys) → Live t x → (k len : ℕ) → eraseW (t .epoch) (t .writer) ≡ cutting k len → x .held .unwritten ≡ 0
+none-unwritten t x live k len = by (t .writer) refl
+  where
+    by : (w : Staging) → t .writer ≡ w → eraseW (t .epoch) w ≡ cutting k len → x .held .unwritten ≡ 0
+    by T.idle e is = let z : _≡_ {A = ℕ} 0 1 = cc in absurd (omega arith)
+    by (T.appending m b c s) e is = let z : _≡_ {A = ℕ} 0 1 = cc in absurd (omega arith)
+    by (T.cutting m c) e is =
+        omega (arith, live .even (ap isAppend e), subst (λ (w : Staging). x .base + x .held .unwritten ≤ length (top (t .content) w)) e (live .sound .new))
+
+-- the row of a tape that is cut
+abbrev pub cutRow : List ℕ → ℕ → ℕ → Staged
+cutRow s p to = record { touched = true; base = touchedAs s p .base; len = to; start = touchedAs s p .start; unwritten = 0 }
+
+-- what all three do: transaction k cuts the tape of handle h, to so many bytes
+pub record CutsTo (s : List ℕ) (k h : ℕ) (u : List ℕ) : Type 0 where
+  pub tape : ℕ
+  pub to : ℕ
+  pub is : u ≡ cutTo s tape to
+  pub found : findHandle s h ≡ At tape
+  pub writer : cuts s k ≡ true
+  pub listed : seenBy s 16 tape .listed ≡ true
+  pub within : to ≤ touchedAs s tape .len
+
+module _ (d s : List ℕ) (o : Orderly d s) (k h : ℕ) (u : List ℕ) (c : CutsTo s k h u) where
+  abbrev p : ℕ
+  p = c .tape
+
+  abbrev row : Staged
+  row = cutRow s (c .tape) (c .to)
+
+  held : handleNumber s p ≢ 0
+  held = handle-found s h p (c .found) .held
+
+  cut-put : Put s h p row
+  unfolding cutTo
+  cut-put =
+      let fits = touched-fits s (o .session-bytes) p in
+      record {
+        found = c .found;
+        writer = cuts-open s k (c .writer);
+        fits = record { base = fits .base; len = omega (arith, fits .len, c .within); start = fits .start; unwritten = omega arith };
+        touched = refl;
+        begun = begun-cutTo s (o .session) p (handle-found s h p (c .found) .low) (c .to);
+      }
+
+  cut-is : u ≡ putStaged s p row
+  unfolding cutTo
+  cut-is = c .is
+
+  pub cuts-becomes : Becomes s u (c .tape) (ringOf s (c .tape)) (ringBytes s (c .tape)) (cutRow s (c .tape) (c .to))
+  cuts-becomes = rw cut-is (becomes d s o h p row cut-put)
+
+  pub cuts-on : OnHandle d s d u h
+  cuts-on = rw cut-is (on-handle d s o h p row cut-put)
+
+  pub cuts-own : (n : List ℕ) → placeOf s n ≡ At (c .tape) → (t : Told) (x : Phys) → Good t x → Seen d s n (build t x) → Leads d u n (step (cut k (c .to)) (build t x)) 0
+  cuts-own n at t x good seen =
+      let st = build t x in
+      let live = its-live d s n o p at held st seen in
+      let is-writer = cut-writer d s n o p at held st seen k (c .writer) (c .listed) in
+      let goes = model-cut st k (touchedAs s p .len) (c .to) is-writer live (cut-listed d s n o p at held st seen k (c .writer)) (c .within) in
+      let is : writerWith s row ≡ cutting k (c .to) = rw (cuts-kind s k (c .writer), cuts-as s k (c .writer)) in
+      let none : x .held .unwritten ≡ 0 = none-unwritten t x (subst (λ (b : Bool). GoodIf b t x) live good) k (touchedAs s p .len) is-writer in
+      subst (λ (a : After). Leads d u n a 0) (sym goes)
+      (record {
+        answer = refl;
+        seen = rw cut-is (subst (λ (w : Writer). Seen d (putStaged s p row) n (staged st w (st .held))) is
+            (put-own d s o h p row cut-put n at st (sym none) (its-base d s n o p at held st seen (cuts-open s k (c .writer))) seen));
+      })
+
+  -- the same, by the name's handle
+  cuts-named : (n : List ℕ) (entry : ℕ) → Handled s n h entry → (to : ℕ) → (entrySize s (c .tape) ≡ entry → c .to ≡ to) → (t : Told) (x : Phys) → Good t x
+      → Seen d s n (build t x) → Leads d u n (step (cut k to) (build t x)) 0
+  cuts-named n entry its to same t x good seen =
+      let own = handle-own d s o n h p entry its (c .found) in
+      subst (λ (b : ℕ). Leads d u n (step (cut k b) (build t x)) 0) (same (own .1)) (cuts-own n (own .0) t x good seen)
+
+-- ---- a tape cut to an index
+
+module _ (d s : List ℕ) (k h i : ℕ) (served : codeOf (cutCall d s k h i .answer) ≡ 0) where
+  cut-found : Finds d s (cuts s k) h i
+  cut-found =
+      cut-cases (λ (a : Real.After). codeOf (a .answer) ≡ 0 → Finds d s (cuts s k) h i) d s k h i (λ why e. absurd (refusal-some why e))
+      (λ p g e. record { place = p; goes = g }) served
+
+  pub cut-to : CutsTo s k h (cutCall d s k h i .session)
+  cut-to =
+      let p = cut-found .place in
+      let g = cut-found .goes in
+      record {
+        tape = p;
+        to = i * handleOf s p .entry;
+        is = ap (λ (a : Real.After). a .session) (cut-done d s k h p i g);
+        found = g .found;
+        writer = g .writer;
+        listed = g .listed;
+        within = rw (← seen-touched s p) (upTo-true (handleOf s p .entry) i (seenBy s 16 p .len) (g .within));
+      }
+
+  module _ (o : Orderly d s) where
+    pub cut-on : OnHandle d s d (cutCall d s k h i .session) h
+    cut-on = cuts-on d s o k h _ cut-to
+
+    pub cut-own : (n : List ℕ) (entry : ℕ) → Handled s n h entry → (t : Told) (x : Phys) → Good t x → Seen d s n (build t x)
+        → Leads d (cutCall d s k h i .session) n (step (cut k (i * entry)) (build t x)) 0
+    unfolding cut-to
+    cut-own n entry its = cuts-named d s o k h (cutCall d s k h i .session) cut-to n entry its (i * entry) (λ e. ap (λ (b : ℕ). i * b) (entry-of s (cut-to .tape) ∙ e))
+
+-- ---- entries dropped
+
+-- what a call that was served has found
+record Drops (d s : List ℕ) (w : Bool) (h count : ℕ) : Type 0 where
+  place : ℕ
+  goes : Goes d s w h place (left s place count)
+
+module _ (d s : List ℕ) (k h count : ℕ) (served : codeOf (dropCall d s k h count .answer) ≡ 0) where
+  drop-found : Drops d s (cuts s k) h count
+  drop-found =
+      drop-cases (λ (a : Real.After). codeOf (a .answer) ≡ 0 → Drops d s (cuts s k) h count) d s k h count (λ why e. absurd (refusal-some why e))
+      (λ p g e. record { place = p; goes = g }) served
+
+  pub drop-to : CutsTo s k h (dropCall d s k h count .session)
+  drop-to =
+      let p = drop-found .place in
+      let g = drop-found .goes in
+      record {
+        tape = p;
+        to = left s p count * handleOf s p .entry;
+        is = ap (λ (a : Real.After). a .session) (drop-done d s k h p count (g .sound) (g .writer) (g .found) (g .listed));
+        found = g .found;
+        writer = g .writer;
+        listed = g .listed;
+        within = rw (← seen-touched s p) (upTo-true (handleOf s p .entry) (left s p count) (seenBy s 16 p .len) (g .within));
+      }
+
+  module _ (o : Orderly d s) where
+    pub drop-on : OnHandle d s d (dropCall d s k h count .session) h
+    drop-on = cuts-on d s o k h _ drop-to
+
+    pub drop-own : (n : List ℕ) (entry : ℕ) → Handled s n h entry → (t : Told) (x : Phys) → Good t x → Seen d s n (build t x)
+        → Leads d (dropCall d s k h count .session) n (step (cut k ((stagedLen (build t x .writer) / entry - count) * entry)) (build t x)) 0
+    unfolding drop-to
+    drop-own n entry its t x good seen =
+        let p = drop-to .tape in
+        let at = handle-own d s o n h p entry its (drop-to .found) .0 in
+        let len : stagedLen (build t x .writer) ≡ seenBy s 16 p .len
+        = ap stagedLen (cut-writer d s n o p at (handle-found s h p (drop-to .found) .held) (build t x) seen k (drop-to .writer) (drop-to .listed)) ∙ sym (seen-touched s p) in
+        cuts-named d s o k h (dropCall d s k h count .session) drop-to n entry its ((stagedLen (build t x .writer) / entry - count) * entry)
+        (λ e. rw (entry-of s p, len, e))
+        t x good seen
+
+-- ---- an entry popped
+
+-- a read that was refused has no entry
+abbrev isEntry : OneEntry → Bool
+isEntry (Entry i) = true
+isEntry NoEntry = false
+isEntry (One.Refused why) = false
+
+none-is : (why : Refusal) → isEntry (noneFor why) ≡ false
+none-is Unusable = refl
+none-is Unknown = refl
+none-is WriterOpen = refl
+none-is (Wait n) = refl
+none-is Full = refl
+none-is BadName = refl
+none-is ReservedName = refl
+none-is BadSize = refl
+none-is AlreadyOpen = refl
+none-is NotWhole = refl
+none-is Absent = refl
+none-is OutOfBounds = refl
+none-is StartPastLength = refl
+none-is LongerCut = refl
+none-is NoSlot = refl
+none-is Missing = refl
+none-is BadList = refl
+none-is TooLarge = refl
+
+none-entry : (why : Refusal) (i : ℕ) → noneFor why ≢ Entry i
+none-entry why i e = true≢false (sym (ap isEntry e) ∙ none-is why)
+
+module _ (P : Popping → Type 0) (d s : List ℕ) (t h : ℕ) (out : List ℕ) (no : (a : OneEntry) → ((i : ℕ) → a ≢ Entry i) → P (popping a s out)) where
+  pop-by : ((p : ℕ) → Poppable d s t h out p → P (popping (Entry (last s p)) (popped s p) (filled d s p (last s p) 1 out))) → P (popCall d s t h out)
+  unfolding popCall popOn popAt
+  pop-by goes =
+      picked P (usable d s) _ _
+      (λ ok. picked P (cuts s t) _ _ (λ w. on ok w (findHandle s h) refl) (λ w. refused Unknown))
+      (λ ok. refused Unusable)
+    where
+      refused : (why : Refusal) → P (popping (One.Refused why) s out)
+      refused why = no (One.Refused why) (λ i e. let z : _≡_ {A = ℕ} 0 1 = cc in omega arith)
+
+      nothing : P (popping NoEntry s out)
+      nothing = no NoEntry (λ i e. let z : _≡_ {A = ℕ} 0 1 = cc in omega arith)
+
+      on : usable d s ≡ true → cuts s t ≡ true → (q : Found) → findHandle s h ≡ q → P (popIn d s out q)
+      on ok w (At p) e =
+          picked P (seenBy s 16 p .listed) _ _
+          (λ l.
+          picked P (eqb (seenBy s 16 p .len / entrySize s p) 0) _ _
+          (λ z. nothing)
+          (λ z.
+          let none = eqb-false (seenBy s 16 p .len / entrySize s p) 0 z in
+          read-on-cases (λ (a : Reading). P (cutAt s p (last s p) (a .buffer) (a .answer))) d s (last s p) 1 out (λ why. no (noneFor why) (none-entry why)) 16 p
+          (λ g. goes p (record { sound = ok; writer = w; found = e; some = none; inside = g }))))
+          (λ l. nothing)
+      on ok w Nothing e = refused Unknown
+
+-- what a pop that had an entry has found
+record Pops (d s : List ℕ) (k h : ℕ) (out : List ℕ) (i : ℕ) : Type 0 where
+  place : ℕ
+  goes : Poppable d s k h out place
+  index : last s place ≡ i
+
+-- a pop that has none changes nothing (`entries/specs/Laws.antt`, `pop-none`)
+module _ (d s : List ℕ) (k h : ℕ) (out : List ℕ) (i : ℕ) (served : popCall d s k h out .answer ≡ Entry i) where
+  pop-found : Pops d s k h out i
+  pop-found =
+      pop-by (λ (a : Popping). a .answer ≡ Entry i → Pops d s k h out i) d s k h out (λ a not e. absurd (not i e))
+      (λ p g e. record { place = p; goes = g; index = cc }) served
+
+  pub pop-to : CutsTo s k h (popCall d s k h out .session)
+  pop-to =
+      let p = pop-found .place in
+      let g = pop-found .goes in
+      let same : left s p 1 * handleOf s p .entry ≡ i * entrySize s p = rw (entry-of s p, pop-found .index) in
+      record {
+        tape = p;
+        to = i * entrySize s p;
+        is = ap (λ (a : Popping). a .session) (pop-done d s k h out p g) ∙ ap (λ (j : ℕ). cutTo s p (j * entrySize s p)) (pop-found .index);
+        found = g .found;
+        writer = g .writer;
+        listed = g .inside .listed;
+        within = omega (arith, same, seen-touched s p, upTo-true (handleOf s p .entry) (left s p 1) (seenBy s 16 p .len) (left-within s p 1));
+      }
+
+  module _ (o : Orderly d s) where
+    pub pop-on : OnHandle d s d (popCall d s k h out .session) h
+    pop-on = cuts-on d s o k h _ pop-to
+
+    pub pop-own : (n : List ℕ) (entry : ℕ) → Handled s n h entry → (t : Told) (x : Phys) → Good t x → Seen d s n (build t x)
+        → Leads d (popCall d s k h out .session) n (step (cut k (i * entry)) (build t x)) 0
+    unfolding pop-to
+    pop-own n entry its = cuts-named d s o k h (popCall d s k h out .session) pop-to n entry its (i * entry) (λ e. ap (λ (b : ℕ). i * b) e)
+
+    -- the entry that is popped is the last one
+    pub pop-index : (n : List ℕ) (entry : ℕ) → Handled s n h entry → (st : Store) → Seen d s n st → i ≡ stagedLen (st .writer) / entry - 1
+    pop-index n entry its st seen =
+        let p = pop-found .place in
+        let g = pop-found .goes in
+        let own = handle-own d s o n h p entry its (g .found) in
+        let len : stagedLen (st .writer) ≡ seenBy s 16 p .len
+        = ap stagedLen (cut-writer d s n o p (own .0) (handle-found s h p (g .found) .held) st seen k (g .writer) (g .inside .listed)) ∙ sym (seen-touched s p) in
+        sym (pop-found .index) ∙ rw (len, own .1)
+
+    -- so its index is below 2^64-1, which stands for none
+    pub pop-small : i < 0xffff_ffff_ffff_ffff
+    pop-small =
+        let p = pop-found .place in
+        let fits = seen-fits s (o .session-bytes) p 16 in
+        omega (arith, pop-found .index, div-le-self (seenBy s 16 p .len) (entrySize s p))

@@ -1,0 +1,188 @@
+-- A `store` that is served keeps `Proper`: its names are those of the list that it read, and the session before had listed each of them. On an empty disk
+-- there is no name at all. Assumes nothing.
+use mathlib.Core.Path.{_≡_, refl, sym, ap, _∙_}
+use mathlib.Core.Bool.{true, false, true≢false, false≢true, _&&_}
+use mathlib.Core.List.{List, [], _∷_}
+use mathlib.Core.Option.{Option, none, some}
+use Prim.Native.Nat.{ℕ, zero, suc, _≤_, _<_}
+use native.Mathlib.Omega.{arith}
+use lib.Dec.{leb}
+use lib.ListN.{length, getElem?}
+use Rattle.octets.specs.Cases.{decide, order, and-l, and-r}
+use Rattle.octets.specs.Compare.{sameBytes, same-refl, comesBefore}
+use Rattle.octets.specs.Number.{Bytes}
+use Rattle.octets.specs.declared.Found.{Found}
+use Rattle.octets.specs.declared.Found.the-variants.{At, Nothing}
+use Rattle.answers.specs.Answers.{codeOf}
+use Rattle.metadata.specs.Choice.{chosenList}
+use Rattle.metadata.specs.Name.{nameRule}
+use Rattle.metadata.specs.NameLaws.{rule-empty}
+use Rattle.metadata.specs.Rules.{good-first, good-others, good-tapes}
+use Rattle.metadata.specs.Tapes.{Tape, fits, goodAfter}
+use Rattle.layout.specs.Names.{name}
+use Rattle.layout.specs.Session.{namesAt}
+use Rattle.disk.specs.Meaning.{blank, diskOf}
+use Rattle.session.specs.BeginLaws.{nameOf, viewFor, started}
+use Rattle.session.specs.Meaning.{Session}
+use Rattle.session.specs.MeaningLaws.{name-at, view-at}
+use Rattle.session.specs.Rows.{viewOf}
+use Rattle.session.specs.declared.views.View.{View}
+use Rattle.beginning.specs.Sessions.{theRecord, storeCall}
+use Rattle.beginning.specs.StoreLaws.{list-good, store-means}
+use Rattle.lives.specs.Life as Life
+use Rattle.seen.specs.Seen.{placeOf, shown, viewIn}
+use Rattle.seen.specs.Orderly.{listedAs, Recorded, Orderly}
+use Rattle.seen.specs.Proper.{Proper}
+use Rattle.seen.specs.Places.{found-low, found-name}
+use Rattle.seen.specs.Restarts.{same-list, store-recorded}
+use Rattle.seen.specs.Formats.{blank-seen}
+
+-- ---- the tapes of a list that may be stored: each keeps the rule, and the list has its name
+
+fits-rule : (before : List ℕ) (t : Tape) → fits before t ≡ true → nameRule (t .name) ≡ true
+unfolding fits
+fits-rule before t e = and-l (nameRule (t .name)) (leb (t .start) (t .len)) (and-r (comesBefore before (t .name)) (nameRule (t .name) && leb (t .start) (t .len)) e)
+
+rule-in : (before : List ℕ) (ts : List Tape) → goodAfter before ts ≡ true → (i : ℕ) (t : Tape) → getElem? ts i ≡ some t → nameRule (t .name) ≡ true
+rule-in before [] good i t e = let z : _≡_ {A = ℕ} 0 1 = cc in absurd (omega arith)
+rule-in before (x ∷ xs) good zero t e = let same : x ≡ t = cc in rw (← same) (fits-rule before x (good-first before x xs good))
+rule-in before (x ∷ xs) good (suc i) t e = rule-in (x .name) xs (good-others before x xs good) i t e
+
+rule-some : (n : List ℕ) → nameRule n ≡ true → 0 < length n
+rule-some n e = order 0 (length n) (λ l. l) (λ (l : length n ≤ 0). absurd (true≢false (sym e ∙ rule-empty n (omega arith))))
+
+listed-in : (ts : List Tape) (i : ℕ) (t : Tape) → getElem? ts i ≡ some t → listedAs (t .name) ts .listed ≡ true
+unfolding listedAs
+listed-in [] i t e = let z : _≡_ {A = ℕ} 0 1 = cc in absurd (omega arith)
+listed-in (x ∷ xs) zero t e = let same : x ≡ t = cc in rw (same, same-refl (t .name))
+listed-in (x ∷ xs) (suc i) t e =
+    decide (sameBytes (x .name) (t .name))
+    (λ (hit : sameBytes (x .name) (t .name) ≡ true). rw hit)
+    (λ (miss : sameBytes (x .name) (t .name) ≡ false). rw miss (listed-in xs i t e))
+
+-- a view that shows is listed
+shown-is : (v : View) → shown v .listed ≡ true → v .listed ≡ true
+shown-is v e = decide (v .listed) (λ t. t) (λ (f : v .listed ≡ false). absurd (false≢true (rw f at e)))
+
+-- ---- the names after a store
+
+module _ (d area : List ℕ) (bytes : Bytes d) (served : codeOf (storeCall d area .answer) ≡ 0) where
+  abbrev u : List ℕ
+  u = storeCall d area .session
+
+  new : Recorded d (storeCall d area .session)
+  new = store-recorded d area bytes served
+
+  abbrev ts : List Tape
+  ts = new .list
+
+  name-stored : (p : ℕ) → p < 8 → name u namesAt p ≡ nameOf (getElem? ts p)
+  unfolding started
+  name-stored p low = sym (name-at u p low) ∙ ap (λ (m : Session). m .name p) (store-means d area bytes ts (new .read) served)
+
+  view-stored : (p : ℕ) → p < 8 → viewOf u 17 p ≡ viewFor (getElem? ts p)
+  unfolding started
+  view-stored p low = sym (view-at u 17 p (omega arith) low) ∙ ap (λ (m : Session). m .view 17 p) (store-means d area bytes ts (new .read) served)
+
+  -- the list has the name in place p
+  record Stands (p : ℕ) : Type 0 where
+    named : 0 < length (name u namesAt p)
+    listed : listedAs (name u namesAt p) ts .listed ≡ true
+
+  stands : (p : ℕ) → p < 8 → (t : Tape) → getElem? ts p ≡ some t → Stands p
+  stands p low t e =
+      let has : name u namesAt p ≡ t .name = name-stored p low ∙ ap nameOf e in
+      record {
+        named = rw has (rule-some (t .name) (rule-in [] ts (good-tapes ts (list-good (theRecord d) ts (new .read))) p t e));
+        listed = rw has (listed-in ts p t e);
+      }
+
+  stands-named : (p : ℕ) → p < 8 → 0 < length (name u namesAt p) → Stands p
+  stands-named p low long = by (getElem? ts p) refl
+    where
+      by : (o : Option Tape) → getElem? ts p ≡ o → Stands p
+      by none e = let blank : name u namesAt p ≡ [] = name-stored p low ∙ ap nameOf e in absurd (omega (arith, ap length blank))
+      by (some t) e = stands p low t e
+
+  stands-listed : (p : ℕ) → p < 8 → viewOf u 17 p .listed ≡ true → Stands p
+  stands-listed p low listed = by (getElem? ts p) refl
+    where
+      by : (o : Option Tape) → getElem? ts p ≡ o → Stands p
+      by none e = absurd (true≢false (sym listed ∙ ap (λ (v : View). v .listed) (view-stored p low ∙ ap viewFor e)))
+      by (some t) e = stands p low t e
+
+  -- ---- a session ran before, in s; area is whatever is then lent as the session: the same, or another
+
+  module _ (s : List ℕ) (o : Orderly d s) where
+    -- where the session before had it
+    record Was (n : List ℕ) : Type 0 where
+      place : ℕ
+      low : place < 8
+      same : name s namesAt place ≡ n
+      listed : viewOf s 17 place .listed ≡ true
+
+    was : (p : ℕ) → Stands p → Was (name u namesAt p)
+    was p st = by (placeOf s n) refl
+      where
+        n : List ℕ
+        n = name u namesAt p
+
+        lists : new .list ≡ o .recorded .list
+        lists = same-list (chosenList (theRecord d)) (new .list) (o .recorded .list) (new .read) (o .recorded .read)
+
+        word : viewIn s 17 (placeOf s n) .listed ≡ true
+        word =
+            ap (λ (v : View). v .listed) (sym (o .recorded .says n (st .named)))
+            ∙ ap (λ (l : List Tape). listedAs n l .listed) (sym lists)
+            ∙ st .listed
+
+        by : (f : Found) → placeOf s n ≡ f → Was n
+        by (At q) e =
+            record {
+              place = q;
+              low = found-low s namesAt n q e;
+              same = found-name s namesAt n q e;
+              listed = shown-is (viewOf s 17 q) (sym (ap (λ (f : Found). viewIn s 17 f .listed) e) ∙ word);
+            }
+        by Nothing e = absurd (false≢true (sym (ap (λ (f : Found). viewIn s 17 f .listed) e) ∙ word))
+
+    names-proper : Proper d s → Proper d (storeCall d area .session)
+    names-proper proper =
+        record {
+          rule = λ p low some.
+              let w = was p (stands-named p low some) in
+              rw (w .same) at (proper .rule (w .place) (w .low) (rw (w .same) some));
+          unreserved = λ p low some.
+              let w = was p (stands-named p low some) in
+              rw (w .same) at (proper .unreserved (w .place) (w .low) (rw (w .same) some));
+          housed = λ p low listed.
+              let w = was p (stands-listed p low listed) in
+              rw (w .same) at (proper .housed (w .place) (w .low) (w .listed));
+        }
+
+  -- ---- an empty disk
+
+  module _ (k : ℕ) (empty : diskOf d ≡ blank k) where
+    none-stands : {A : Type 0} → (p : ℕ) → Stands p → A
+    unfolding Life.blank
+    none-stands p st =
+        absurd
+        (true≢false
+        (sym (st .listed)
+        ∙ ap (λ (v : View). v .listed) (new .says (name u namesAt p) (st .named) ∙ blank-seen d k empty area bytes served (name u namesAt p) (st .named) .list)))
+
+    none-proper : Proper d (storeCall d area .session)
+    none-proper =
+        record {
+          rule = λ p low some. none-stands p (stands-named p low some);
+          unreserved = λ p low some. none-stands p (stands-named p low some);
+          housed = λ p low listed. none-stands p (stands-listed p low listed);
+        }
+
+-- ---- the calls
+
+pub store-proper : (d s : List ℕ) → Orderly d s → Proper d s → (area : List ℕ) → codeOf (storeCall d area .answer) ≡ 0 → Proper d (storeCall d area .session)
+store-proper d s o proper area served = names-proper d area (o .disk-bytes) served s o proper
+
+pub blank-proper : (d : List ℕ) (k : ℕ) → diskOf d ≡ blank k → Bytes d → (area : List ℕ) → codeOf (storeCall d area .answer) ≡ 0 → Proper d (storeCall d area .session)
+blank-proper d k empty bytes area served = none-proper d area bytes served k empty
