@@ -63,10 +63,14 @@ record Lives : Type 0 where
   new : page 4 (tells (P ++ (reader ∷ truncate ∷ cut 3 4 ∷ commit 3 ∷ reader ∷ []))) ≡ some (record { here = true; start = 0; content = 0 ∷ 1 ∷ 2 ∷ 3 ∷ [] })
   -- an append waits for the window that is longer than the tape
   waits : asks (P ++ (reader ∷ truncate ∷ cut 3 4 ∷ commit 3 ∷ reader ∷ [])) append ≡ Refused 4 1
+  -- a second commit is published too; a dropped append leaves nothing behind; a removal heeds the oldest window
+  second : asks (P ++ (append ∷ put 2 (0x78 ∷ []) ∷ commit 2 ∷ reader ∷ [])) (read 3 9 2) ≡ Bytes (9 ∷ 0x78 ∷ [])
+  dropped : asks (P ++ (append ∷ put 2 (0x78 ∷ []) ∷ drop′ 2 ∷ append ∷ put 3 (0x79 ∷ []) ∷ [])) (read 3 9 2) ≡ Bytes (9 ∷ 0x79 ∷ [])
+  heeded : asks (append ∷ opens 1 2 0 ∷ put 1 (0 ∷ 1 ∷ 2 ∷ 3 ∷ 4 ∷ 5 ∷ []) ∷ commit 1 ∷ reader ∷ append ∷ shift 3 5 ∷ commit 3 ∷ []) (read 2 0 6) ≡ Bytes (0 ∷ 1 ∷ 2 ∷ 3 ∷ 4 ∷ 5 ∷ [])
   -- a reader begun before the creation never sees the tape
   absent : asks (reader ∷ append ∷ opens 2 16 0 ∷ put 2 (5 ∷ []) ∷ commit 2 ∷ []) (read 1 0 1) ≡ Refused 11 0
 
 lives : Lives
 unfolding run telling step blank nothing pageIn closed find without view older least oldestOther flush putHeld settled takenBack trimmed byteIn fetch forget taken onDiskAt load filled byteAt writeByte write markBelow ripeBelow remove clearFrom track written B.put nth nths around pushed popped truncated prepared afterPut bytesAfterPut unwrittenOf sent unwrittenAfter
 lives =
-    record { again = refl; shut = refl; other = refl; hole = refl; stay = refl; lost = refl; kept = refl; old = refl; new = refl; waits = refl; absent = refl }
+    record { again = refl; shut = refl; other = refl; hole = refl; stay = refl; lost = refl; kept = refl; old = refl; new = refl; waits = refl; second = refl; dropped = refl; heeded = refl; absent = refl }

@@ -82,7 +82,7 @@ dropped-runs d s u k v K r c = record { orderly = c .orderly; starts = c .starts
         })
 
 -- a kind that reads as a reader's is written as one
-reader-word : (w : ℕ) → kindFor w ≡ Kinds.Reader → w ≡ 1
+pub reader-word : (w : ℕ) → kindFor w ≡ Kinds.Reader → w ≡ 1
 reader-word w =
     picked (λ (x : Kind). x ≡ Kinds.Reader → w ≡ 1) (eqb w 0) Kinds.Closed (cond (eqb w 1) Kinds.Reader (cond (eqb w 2) Kinds.Append Kinds.Truncate)) (λ e z. absurd (let q : _≡_ {A = ℕ} 0 1 = cc in omega arith))
     (λ e.

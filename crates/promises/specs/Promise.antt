@@ -299,3 +299,21 @@ bufferOf (dropTransaction t) = []
 abbrev pub RefusedLeaves : Type 0
 RefusedLeaves = (c : Call) (a : Areas) → step c a .code ≢ 0
     → (step c a .areas ≡ a) × ((step c a .buffer ≡ bufferOf c) × (step c a .code ≢ 4 → step c a .value ≡ 0))
+
+-- ---- all of it
+
+pub record Promised : Type 0 where
+  pub reads : Reads
+  pub waits : Waits
+  pub append-waits : AppendWaits
+  pub commits : Commits
+  pub commits-served : CommitsServed
+  pub reads-one : ReadsOne
+  pub pops : Pops
+  pub reads-else : ReadsElse
+  pub page-stands : PageStands
+  pub reads-again : ReadsAgain
+  pub puts : Puts
+  pub two-places : TwoPlaces
+  pub still-read : StillRead
+  pub refused-leaves : RefusedLeaves

@@ -34,7 +34,7 @@ pub with-handle : (a : Areas) (K : Lore) (n : List ℕ) → 0 < length n → K n
 with-handle a K n long handle (running r) = r
 with-handle a K n long handle (formatted f) = no-handle a K n f long handle
 
-read-running : (d s : List ℕ) (K : Lore) → Running (areas d s) K → (n : List ℕ) → 0 < length n → (t i count : ℕ) (buffer : List ℕ) (q : Page)
+pub read-running : (d s : List ℕ) (K : Lore) → Running (areas d s) K → (n : List ℕ) → 0 < length n → (t i count : ℕ) (buffer : List ℕ) (q : Page)
     → K n .handle ≢ 0 → page t (K n .tape) ≡ some q → q .here ≡ true → q .start ≤ i * K n .entry → (i + count) * K n .entry ≤ length (q .content) → count * K n .entry ≤ length buffer
     → step (readEntries t (K n .handle) i count buffer) (areas d s)
     ≡ result 0 count (areas d s) (take (count * K n .entry) (drop (i * K n .entry) (q .content)) ++ drop (count * K n .entry) buffer)

@@ -113,14 +113,14 @@ writer-cuts K.Truncate number epoch v m l is = record { kind = refl; runs = refl
 -- ---- what a transaction sees of the tape is its page
 
 -- a page that is here, as a view
-abbrev viewP : Page → View
+abbrev pub viewP : Page → View
 viewP q = record { listed = true; len = length (q .content); start = q .start }
 
 -- transaction k is in a place and sees tape p so
-record Sight (s : List ℕ) (k p : ℕ) (v : View) : Type 0 where
-  place : ℕ
-  found : findTransaction s k ≡ At place
-  view : seenBy s place p ≡ v
+pub record Sight (s : List ℕ) (k p : ℕ) (v : View) : Type 0 where
+  pub place : ℕ
+  pub found : findTransaction s k ≡ At place
+  pub view : seenBy s place p ≡ v
 
 -- the open truncate does
 record CutSight (s : List ℕ) (k p : ℕ) (v : View) : Type 0 where
@@ -217,7 +217,7 @@ module _ (d s n : List ℕ) (o : Orderly d s) (st : Store) (seen : Seen d s n st
 
 -- whatever the transaction is
 module _ (d s n : List ℕ) (o : Orderly d s) (starts : CutStarts s) (t : Told) (p : Phys) (seen : Seen d s n (build t p)) (a : ℕ) (at : placeOf s n ≡ At a) where
-  sight : (k : ℕ) (q : Page) → page k t ≡ some q → q .here ≡ true → Sight s k a (viewP q)
+  pub sight : (k : ℕ) (q : Page) → page k t ≡ some q → q .here ≡ true → Sight s k a (viewP q)
   sight k q is here = by (t .writer) refl is
     where
       window : pageIn k (t .windows) ≡ some q → Sight s k a (viewP q)
