@@ -117,7 +117,7 @@ module _ (s t : List ℕ) (p : ℕ) (low : p < 8) (r : RingBuffer) (bytes : List
 
 -- ---- a put
 
--- the ring's numbers after it
+-- the ring's numbers after it (`ring-numbers` of cached_tape/PutLaws, which is private there)
 put-numbers : (r : RingBuffer) (len : ℕ) (bs : List ℕ) → RingSound r 4096 → RingNumbers (afterPut r len bs)
 unfolding afterPut pushed
 put-numbers r len bs sound =

@@ -8,7 +8,7 @@ use mathlib.Core.Option.{none}
 use Prim.Native.Nat.{ℕ, zero, suc, _+_, _-_, _≤_, _<_}
 use native.Mathlib.Nat.{add-zero}
 use native.Mathlib.Omega.{arith}
-use borrow.Author.Tests.{eq-eqb, ne-eqb, lt-ltb}
+use borrow.Author.Tests.{eq-eqb, ne-eqb}
 use lib.Dec.{eqb, ltb}
 use lib.ListN.{length}
 use Rattle.octets.specs.Cases.{picked, decide, order, equal}
@@ -18,6 +18,7 @@ use Rattle.components.specs.FileBytes.{written}
 use Rattle.components.specs.Files.{File, Files, untracked, writeByte, write}
 use Rattle.components.specs.Slots.{covered}
 use Rattle.components.specs.SlotsLaws.{covered-none}
+use Rattle.joins.specs.Ranges.{covered-some}
 
 abbrev pub withBytes : File → List ℕ → File
 withBytes f bs = record { there = f .there; tracked = f .tracked; mark = f .mark; bytes = bs }
@@ -138,9 +139,8 @@ module _ (f : Files) (n : ℕ) where
   unfolding reachedFrom
   from-again c = ap (λ (g : Files). reachedFrom g (n + 1) c) (reached-twice f n)
 
-covered-some : (fs o m : ℕ) → covered fs o (o + suc m) ≡ fileOf fs (o + m) - fileOf fs o + 1
-unfolding covered
-covered-some fs o m = rw (lt-ltb o (o + suc m) (omega arith)) (ap (λ (x : ℕ). fileOf fs x - fileOf fs o + 1) (omega arith))
+covered-suc : (fs o m : ℕ) → covered fs o (o + suc m) ≡ fileOf fs (o + m) - fileOf fs o + 1
+covered-suc fs o m = covered-some fs o (o + suc m) (omega arith) ∙ ap (λ (x : ℕ). fileOf fs x - fileOf fs o + 1) (omega arith)
 
 module _ (fs : ℕ) (z : 0 < fs) (f : Files) (o : ℕ) where
   abbrev behind : ℕ → Files
@@ -152,7 +152,7 @@ module _ (fs : ℕ) (z : 0 < fs) (f : Files) (o : ℕ) where
   last-alone : behind 0 ≡ whole 0
   last-alone =
       let none : covered fs (o + 1) (o + 1 + 0) ≡ 0 = covered-none fs (o + 1) (o + 1 + 0) (omega arith) in
-      let one : covered fs o (o + 1) ≡ suc 0 = omega (arith, covered-some fs o 0, ap (λ (x : ℕ). fileOf fs x) (add-zero o)) in
+      let one : covered fs o (o + 1) ≡ suc 0 = omega (arith, covered-suc fs o 0, ap (λ (x : ℕ). fileOf fs x) (add-zero o)) in
       rw (none, one) (from-none (reached f (fileOf fs o)) _ ∙ sym (from-some f (fileOf fs o) 0 ∙ from-none (reached f (fileOf fs o)) _))
 
   last-same : (m : ℕ) → fileOf fs (o + 1 + m) ≡ fileOf fs (o + suc m)
@@ -164,8 +164,8 @@ module _ (fs : ℕ) (z : 0 < fs) (f : Files) (o : ℕ) where
       let n = fileOf fs o in
       let same : fileOf fs (o + 1) ≡ n = piece-number fs z o 1 l in
       let c = fileOf fs (o + suc m) - n in
-      let rest : covered fs (o + 1) (o + 1 + suc m) ≡ suc c = covered-some fs (o + 1) m ∙ omega (arith, last-same m) in
-      let all : covered fs o (o + suc (suc m)) ≡ suc c = covered-some fs o (suc m) ∙ omega arith in
+      let rest : covered fs (o + 1) (o + 1 + suc m) ≡ suc c = covered-suc fs (o + 1) m ∙ omega (arith, last-same m) in
+      let all : covered fs o (o + suc (suc m)) ≡ suc c = covered-suc fs o (suc m) ∙ omega arith in
       rw (rest, all, same) (from-again f n c)
 
   -- .. or from the next one on
@@ -176,8 +176,8 @@ module _ (fs : ℕ) (z : 0 < fs) (f : Files) (o : ℕ) where
       let next : fileOf fs (o + 1) ≡ n + 1 = ap (λ (x : ℕ). fileOf fs (o + x)) (sym one) ∙ next-number fs z o in
       let up = file-mono fs z (o + 1) (o + suc m) (omega arith) in
       let c = fileOf fs (o + suc m) - n in
-      let rest : covered fs (o + 1) (o + 1 + suc m) ≡ c = covered-some fs (o + 1) m ∙ omega (arith, last-same m) in
-      let all : covered fs o (o + suc (suc m)) ≡ suc c = covered-some fs o (suc m) ∙ omega arith in
+      let rest : covered fs (o + 1) (o + 1 + suc m) ≡ c = covered-suc fs (o + 1) m ∙ omega (arith, last-same m) in
+      let all : covered fs o (o + suc (suc m)) ≡ suc c = covered-suc fs o (suc m) ∙ omega arith in
       rw (rest, all, next) (sym (from-some f n c))
 
   reached-rest : (m : ℕ) → behind m ≡ whole m

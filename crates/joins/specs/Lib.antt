@@ -1,4 +1,5 @@
 pub mod FilesAt
+pub mod Ranges
 pub mod Covers
 pub mod Slots
 pub mod Making

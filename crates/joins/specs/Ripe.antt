@@ -85,7 +85,7 @@ going-bytes d s place oldest i few low =
 
 -- ---- .. and of the numbers
 
--- every tracked file below is marked below the limit
+-- every tracked file below is marked below the limit, and back (both stand in components/MarkLaws too, private there)
 ripe-at : (oldest : ℕ) (f : Files) (k j : ℕ) → j < k → f j .tracked ≡ true → ripeBelow oldest f k ≡ true → markedBelow oldest (f j .mark) ≡ true
 unfolding ripeBelow
 ripe-at oldest f zero j l t h = absurd (omega arith)

@@ -1,19 +1,18 @@
 -- What goes to a tape's files, at a flush and at a put: over the two areas it is `flush` and `putHeld` of `held`. Assumes nothing.
 use mathlib.Core.Path.{_≡_, refl, sym, ap, _∙_}
 use mathlib.Core.Logic.{_≢_}
-use mathlib.Core.Bool.{Bool, true, false}
+use mathlib.Core.Bool.{true, false}
 use mathlib.Core.List.{List, [], _++_}
-use Prim.Native.Nat.{ℕ, _+_, _-_, _≤_, _<_, _^_}
+use Prim.Native.Nat.{ℕ, _+_, _≤_, _<_, _^_}
 use native.Mathlib.Omega.{arith}
-use borrow.Author.Tests.{lt-ltb}
 use lib.ListN.{length}
-use Rattle.octets.specs.Cases.{picked, decide, order}
-use Rattle.components.specs.Pieces.{fileOf, leftIn}
-use Rattle.components.specs.PiecesLaws.{left-some, piece-number, next-number, file-mono}
+use Rattle.octets.specs.Cases.{picked, decide}
+use Rattle.components.specs.Pieces.{fileOf}
+use Rattle.components.specs.PiecesLaws.{file-mono}
 use Rattle.components.specs.Files.{Files, write}
 use Rattle.components.specs.WriteLaws.{write-append}
-use Rattle.components.specs.Slots.{lackingFrom, covered as filesCovered}
-use Rattle.components.specs.SlotsLaws.{lacking-split, lacking-mono, covered-none, covered-mono}
+use Rattle.components.specs.Slots.{covered as filesCovered}
+use Rattle.components.specs.SlotsLaws.{lacking-mono, covered-mono}
 use Rattle.layout.specs.Disk.{slots}
 use Rattle.layout.specs.Session.{handleNumber, fileSize, ringLen, TapeFits}
 use Rattle.ring_buffer.specs.Put.{fills, pushesOut, sent}
@@ -27,50 +26,8 @@ use Rattle.cached_tape.specs.FlushLaws.{length-unwritten, slots-flushed}
 use Rattle.cached_tape.specs.Putting.{sentTo}
 use Rattle.held.specs.Held.{flush, putHeld}
 use Rattle.joins.specs.FilesAt.{filesAt, heldAt}
+use Rattle.joins.specs.Ranges.{last-part, lacking-within}
 use Rattle.joins.specs.Writes.{Clean, Room, Grown, Ready, Wrote, wrote-files, clean-wrote}
-
--- ---- the numbers of a run, and of its last part
-
-covered-some : (fs base end : ℕ) → base < end → filesCovered fs base end ≡ fileOf fs (end - 1) - fileOf fs base + 1
-unfolding filesCovered
-covered-some fs base end h = rw (lt-ltb base end h)
-
-module _ (fs : ℕ) (z : 0 < fs) where
-  -- the next offset is in the same file or in the next
-  next-near : (o : ℕ) → fileOf fs (o + 1) ≤ fileOf fs o + 1
-  next-near o =
-      order 1 (leftIn fs o)
-      (λ (l : 1 < leftIn fs o). omega (arith, piece-number fs z o 1 l))
-      (λ (l : leftIn fs o ≤ 1).
-      let one : leftIn fs o ≡ 1 = omega (arith, left-some fs z o) in
-      omega (arith, ap (λ (x : ℕ). fileOf fs (o + x)) (sym one) ∙ next-number fs z o))
-
-  last-part : (base mid end : ℕ) → base ≤ mid → mid ≤ end → fileOf fs mid + filesCovered fs mid end ≤ fileOf fs base + filesCovered fs base end
-  last-part base mid end l m =
-      order base end
-      (λ (some : base < end).
-      order mid end
-      (λ (h : mid < end).
-      omega (arith, covered-some fs base end some, covered-some fs mid end h, file-mono fs z base (end - 1) (omega arith), file-mono fs z mid (end - 1) (omega arith)))
-      (λ (h : end ≤ mid).
-      let same : mid ≡ end - 1 + 1 = omega arith in
-      omega (arith, covered-none fs mid end h, covered-some fs base end some, file-mono fs z base (end - 1) (omega arith), next-near (end - 1), ap (λ (x : ℕ). fileOf fs x) same)))
-      (λ (h : end ≤ base).
-      let same : mid ≡ base = omega arith in
-      omega (arith, covered-none fs mid end (omega arith), ap (λ (x : ℕ). fileOf fs x) same))
-
--- fewer numbers lack no more
-lacking-within : (there : ℕ → Bool) (k e j c : ℕ) → k ≤ j → j + c ≤ k + e → lackingFrom there j c ≤ lackingFrom there k e
-lacking-within there k e j c l m =
-    let x = j - k in
-    let y = k + e - (j + c) in
-    let full : x + (c + y) ≡ e = omega arith in
-    let from : k + x ≡ j = omega arith in
-    omega (
-      arith,
-      ap (λ (n : ℕ). lackingFrom there k n) (sym full) ∙ lacking-split there k x (c + y),
-      ap (λ (n : ℕ). lackingFrom there n (c + y)) from ∙ lacking-split there j c y,
-    )
 
 -- ---- a tape that may send bytes to its files: what they lack, and more up to an end
 

@@ -137,7 +137,8 @@ owner-out : (d : List ℕ) (j : ℕ) → slots d ≤ j → diskOf d .slot j .own
 unfolding diskOf
 owner-out d j l = ap (λ (r : Slot). r .owner) (table-out (slots d) free (slotOf d) j l)
 
-retracks-in : (d : List ℕ) (place : ℕ) (c : Change) (t : ℕ → Tracking) → retracks d place c t ≡ changedIn (diskOf d) place c t
+-- a change of tracking, said of the bytes and of the meaning, is the same: a slot beyond the disk's is nobody's
+pub retracks-in : (d : List ℕ) (place : ℕ) (c : Change) (t : ℕ → Tracking) → retracks d place c t ≡ changedIn (diskOf d) place c t
 retracks-in d place c t =
     fun-ext
     (λ (j : ℕ).

@@ -2,30 +2,25 @@
 -- that directory. Assumes nothing.
 use mathlib.Core.Path.{_≡_, refl, ap, fun-ext, _∙_}
 use mathlib.Core.Logic.{_≢_}
-use mathlib.Core.List.{List}
-use Prim.Native.Nat.{ℕ, _+_, _≤_, _<_, _^_}
+use Prim.Native.Nat.{ℕ, _≤_, _<_, _^_}
 use native.Mathlib.Omega.{arith}
-use borrow.Author.Tests.{lt-ltb, le-ltb, ne-eqb}
-use Rattle.octets.specs.Cases.{order}
-use Rattle.octets.specs.Words.{table-out}
-use Rattle.layout.specs.Disk.{slots}
 use Rattle.components.specs.Files.{Files, track, markBelow, clearFrom}
 use Rattle.held.specs.Held.{forget}
 use Rattle.disk.specs.Steps.{files}
-use Rattle.disk.specs.Meaning.{free, slotOf, diskOf}
-use Rattle.disk.specs.MeaningLaws.{owner-in, number-in}
+use Rattle.disk.specs.Meaning.{diskOf}
 use Rattle.session.specs.Meaning.{Session, sessionOf}
 use Rattle.session.specs.KeepLaws.{begun-ready}
 use Rattle.session.specs.declared.tracking.Tracking.{Tracking}
 use Rattle.rolling_tape.specs.Room.{onDisk}
 use Rattle.rolling_tape.specs.Removal.{Areas, areas}
 use Rattle.rolling_tape.specs.Tracking.{retracked}
-use Rattle.rolling_tape.specs.TrackingLaws.{ChangeFits, begun-retracked, bytes-retracked, retracks, session-retracked}
+use Rattle.rolling_tape.specs.TrackingLaws.{ChangeFits, begun-retracked, bytes-retracked, session-retracked}
 use Rattle.rolling_tape.specs.Files.{filesOf, changedIn, changedFile, files-changed, files-unchanged}
 use Rattle.rolling_tape.specs.declared.tracking.Change.{Change}
 use Rattle.rolling_tape.specs.declared.tracking.Change.the-variants.{TrackUpTo, MarkBelow, ClearFrom, UntrackAll}
 use Rattle.ending.specs.StepLaws.{Whole}
 use Rattle.joins.specs.FilesAt.{filesAt, Once}
+use Rattle.joins.specs.Slots.{retracks-in}
 
 -- ---- a step in the files of one directory
 
@@ -53,16 +48,6 @@ changed-then a b c place f g p q =
 
 -- ---- a change of tracking
 
--- said of the bytes and of the meaning, it is the same: a slot beyond the disk's is nobody's
-same-change : (d : List ℕ) (place : ℕ) (c : Change) (rows : ℕ → Tracking) → retracks d place c rows ≡ changedIn (diskOf d) place c rows
-unfolding diskOf
-same-change d place c rows =
-    fun-ext
-    (λ (i : ℕ).
-    order i (slots d)
-    (λ (l : i < slots d). rw (lt-ltb i (slots d) l, owner-in d i l, number-in d i l))
-    (λ (l : slots d ≤ i). rw (le-ltb i (slots d) l, table-out (slots d) free (slotOf d) i l, ne-eqb 0 (place + 1) (λ q. omega arith))))
-
 -- both areas, after it
 abbrev pub retrackedAt : Areas → ℕ → Change → Areas
 retrackedAt a place c = areas (a .disk) (retracked (a .disk) (a .session) place c)
@@ -72,7 +57,7 @@ module _ (a : Areas) (place : ℕ) (c : Change) (whole : Whole a) (fits : Change
   pub trackings-retracked : sessionOf (retrackedAt a place c .session) .tracking ≡ changedIn (diskOf (a .disk)) place c (sessionOf (a .session) .tracking)
   trackings-retracked =
       ap (λ (m : Session). m .tracking) (session-retracked (a .disk) (a .session) place c (whole .sound .head .few) (begun-ready _ (whole .begun)) (whole .bytes) fits)
-      ∙ same-change (a .disk) place c (sessionOf (a .session) .tracking)
+      ∙ retracks-in (a .disk) place c (sessionOf (a .session) .tracking)
 
   pub own-retracked : filesAt (retrackedAt a place c) place ≡ λ k. changedFile c k (filesAt a place)
   own-retracked =

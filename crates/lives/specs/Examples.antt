@@ -28,7 +28,7 @@ telling (c ∷ cs) s t = telling cs (step c s .store) (told t c (step c s .answe
 abbrev opens : (k capacity start : ℕ) → Call
 opens k capacity start = open′ k 4 capacity start (replicate 16 0)
 
--- OPEN-POINTS' P: file size 4, cache 16, ten bytes, files 0 to 2, epoch 1
+-- a tape made: file size 4, cache 16, ten bytes, files 0 to 2, epoch 1
 abbrev P : List Call
 P = append ∷ opens 1 16 0 ∷ put 1 (0 ∷ 1 ∷ 2 ∷ 3 ∷ 4 ∷ 5 ∷ 6 ∷ 7 ∷ 8 ∷ 9 ∷ []) ∷ commit 1 ∷ []
 
@@ -52,7 +52,7 @@ record Lives : Type 0 where
   shut : asks (P ++ (restart ∷ reader ∷ [])) (read 1 2 8) ≡ Refused 2 0
   -- with another file size it isn't served
   other : asks (P ++ (restart ∷ append ∷ [])) (open′ 1 8 16 0 (replicate 16 0)) ≡ Refused 8 0
-  -- files 0 and 1 go at the shift's commit; after the cut file 0 is made again with its hole, and 2 stays on the disk (B23)
+  -- files 0 and 1 go at the shift's commit; after the cut file 0 is made again with its hole, and 2 stays on the disk (`b23-numbers-come-back` of the cases)
   hole : file 0 back ≡ 0 ∷ 0 ∷ 0x78 ∷ []
   stay : file 2 back ≡ 8 ∷ 9 ∷ []
   -- a dropped creation loses its handle, a known tape opened in a dropped append keeps it

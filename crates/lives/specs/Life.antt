@@ -4,10 +4,10 @@
 use mathlib.Core.Bool.{Bool, true, false, cond, _&&_}
 use mathlib.Core.Option.{Option, none, some}
 use mathlib.Core.List.{List, [], _∷_, map}
-use Prim.Native.Nat.{ℕ, _+_, _-_, _≤_, _<_, min, max}
+use Prim.Native.Nat.{ℕ, _+_, _-_, min, max}
 use lib.ListN.{length}
 use lib.Dec.{eqb, ltb, leb}
-use Rattle.components.specs.Files.{Files, noFiles}
+use Rattle.components.specs.Files.{noFiles}
 use Rattle.components.specs.Epochs.{older, oldestOther}
 use Rattle.ring_buffer.specs.Ring.{fresh}
 use Rattle.held.specs.Held.{Held, putHeld, settled, takenBack, trimmed, fetch, forget, taken, load, filled}

@@ -3,7 +3,6 @@
 use mathlib.Core.Bool.{Bool, true, false, cond, _&&_}
 use mathlib.Core.Option.{Option, none, some}
 use mathlib.Core.List.{List, [], _∷_, _++_}
-use mathlib.Core.Path.{_≡_}
 use Prim.Native.Nat.{ℕ, _+_, min, max}
 use lib.ListN.{length, take, replicate}
 use lib.Dec.{eqb, ltb}
@@ -129,6 +128,7 @@ unfoldable pub pageIn : ℕ → List Window → Option Page
 pageIn k [] = none
 pageIn k (w ∷ ws) = cond (eqb k (w .number)) (some (record { here = w .here; start = w .start; content = w .content })) (pageIn k ws)
 
+-- a truncate's view has the staged length and the old start; the smaller is taken at its commit
 abbrev pub pageOf : ℕ → Told → Staging → Option Page
 pageOf k t idle = pageIn k (t .windows)
 pageOf k t (appending m h c s) = cond (eqb k m) (some (record { here = h; start = s; content = c })) (pageIn k (t .windows))
@@ -139,14 +139,6 @@ page k t = pageOf k t (t .writer)
 
 unfoldable pub nothing : Told
 nothing = record { epoch = 0; cut = false; listed = false; content = []; start = 0; windows = []; writer = idle; live = false; size = 0 }
-
-pub record Exchange : Type 0 where
-  pub call : Call
-  pub answer : Answer
-
-unfoldable pub tell : List Exchange → Told → Told
-tell [] t = t
-tell (x ∷ xs) t = tell xs (told t (x .call) (x .answer))
 
 -- the windows opened before epoch e
 unfoldable pub before : ℕ → List Window → List Window
@@ -168,7 +160,3 @@ quiet (cut k i) (Done n) = true
 quiet (read k o i) (Done n) = true
 quiet (commit k) (Done n) = false
 quiet (drop′ k) (Done n) = true
-
-abbrev pub Quiet : List Exchange → Type 0
-Quiet [] = Unit {0}
-Quiet (x ∷ xs) = (quiet (x .call) (x .answer) ≡ true) × Quiet xs

@@ -1,5 +1,5 @@
--- The promise's second part: an append told to wait for n windows waits for exactly those. Assumes nothing.
-use mathlib.Core.Path.{_≡_, refl, ap, _∙_}
+-- For one tape: whom an append waits for, by what is told. Assumes nothing.
+use mathlib.Core.Path.{_≡_, refl, ap}
 use mathlib.Core.Bool.{true, false, cond, _&&_, false≢true}
 use mathlib.Core.Logic.{_⊎_, inl, inr, ⊎-elim}
 use mathlib.Core.List.{List, [], _∷_, map, List·Memᴰ, List·Memᴰ·head, List·Memᴰ·tail, List·Memᴰ·cases-cons, List·Memᴰ·not-nil}
@@ -10,11 +10,11 @@ use lib.Dec.{eqb, ltb}
 use lib.ListN.{length}
 use Rattle.octets.specs.Cases.{picked, and-l, and-r}
 use Rattle.components.specs.Epochs.{older}
-use Rattle.lives.specs.Life.{Writer, Store, Call, Answer, After, Done, Bytes, Refused, restart, reader, append, truncate, open′, put, shift, cut, read, commit, drop′, epochs, refuse, then, stepAppend, step, blank}
-use Rattle.lives.specs.Told.{Window, Staging, idle, appending, cutting, Told, withWriter, told, tell, nothing, before, quiet, Quiet, toldDrop, Exchange}
+use Rattle.lives.specs.Life.{Writer, Store, Call, Answer, After, Done, Bytes, Refused, restart, reader, append, truncate, open′, put, shift, cut, read, commit, drop′, epochs, refuse, then, stepAppend, step}
+use Rattle.lives.specs.Told.{Window, Staging, idle, appending, cutting, Told, withWriter, told, before, quiet, toldDrop}
 use Rattle.lives.specs.Invariant.{Phys, erase, eraseW, build}
 use Rattle.lives.specs.StepsDrop.{closed-mem}
-use Rattle.lives.specs.Reads.{Tied, tied-blank, Leads, tied-leads}
+use Rattle.lives.specs.Reads.{Tied}
 
 -- ---- without a commit the epoch stands, and a window that is new is of this epoch
 
@@ -51,20 +51,6 @@ stands t (cut k j) (Done n) q = record { epoch = refl; cut = refl; windows = λ 
 stands t (read k o j) (Done n) q = still t
 stands t (commit k) (Done n) q = absurd (false≢true q)
 stands t (drop′ k) (Done n) q = stands-drop k t (t .writer)
-
-pub stands-run : (xs : List Exchange) (t : Told) → Quiet xs → Stands t (tell xs t)
-unfolding tell
-stands-run [] t q = still t
-stands-run (x ∷ xs) t q =
-    let a = stands t (x .call) (x .answer) (q .0) in
-    let b = stands-run xs (told t (x .call) (x .answer)) (q .1) in
-    record {
-      epoch = b .epoch ∙ a .epoch;
-      cut = b .cut ∙ a .cut;
-      windows = λ w i. ⊎-elim (a .windows w) (λ e. inr (e ∙ a .epoch)) (b .windows w i);
-    }
-
--- ---- the windows of before an epoch: those that the store counts as older
 
 older-before : (e : ℕ) (ws : List Window) → older e (epochs (map erase ws)) ≡ length (before e ws)
 unfolding older before
@@ -147,37 +133,3 @@ some-before (List·Memᴰ·head _) = omega arith
 some-before (List·Memᴰ·tail _) = omega arith
 
 -- ---- the promise. s and t: the store and what is told after some exchanges; xs: further ones, to the store s′
-
-pub record Waiting (s : Store) (t : Told) (n : ℕ) : Type 0 where
-  -- the last commit was a cut, and n windows that were opened before it are open
-  pub cut : t .cut ≡ true
-  pub many : n ≡ length (before (t .epoch) (t .windows))
-  -- as long as no commit comes: while one of them is open, no append is let in
-  pub waits : (xs : List Exchange) (s′ : Store) → Leads s xs s′ → Quiet xs → (w : Window) → List·Memᴰ w (before (t .epoch) (t .windows)) → List·Memᴰ w (tell xs t .windows)
-      → (v : ℕ) → step append s′ .answer ≡ Done v → ⊥
-  -- when none is, and no writer is open, it is let in, whatever windows were opened since
-  pub served : (xs : List Exchange) (s′ : Store) → Leads s xs s′ → Quiet xs → ((w : Window) → List·Memᴰ w (before (t .epoch) (t .windows)) → List·Memᴰ w (tell xs t .windows) → ⊥)
-      → tell xs t .writer ≡ idle → (v : ℕ) × (step append s′ .answer ≡ Done v)
-
-pub waits-tied : (s : Store) (t : Told) → Tied s t → (n : ℕ) → step append s .answer ≡ Refused 4 n → Waiting s t n
-waits-tied s t i n e =
-    let (c, m) = told-wait t (step append s .answer) n (asked s t i) e in
-    record {
-      cut = c;
-      many = m;
-      waits = λ xs s′ le q w a b v.
-          let t′ = tell xs t in
-          let st = stands-run xs t q in
-          let (_, l) = before-is (t .epoch) (t .windows) a in
-          kept-out t′ (step append s′ .answer) v (asked s′ t′ (tied-leads le t i)) (st .cut ∙ c) (some-before (is-before (t′ .epoch) (t′ .windows) b (omega (arith, st .epoch))));
-      served = λ xs s′ le q h x.
-          let t′ = tell xs t in
-          let st = stands-run xs t q in
-          let-in t′ (step append s′ .answer) (asked s′ t′ (tied-leads le t i)) x
-          (none-before (t′ .epoch) (t′ .windows) (λ w a l.
-          ⊎-elim (λ j. h w (is-before (t .epoch) (t .windows) j (omega (arith, st .epoch))) a) (λ r. omega (arith, st .epoch, r)) (st .windows w a)));
-    }
-
--- from a formatted disk, after any exchanges
-pub waits : (xs : List Exchange) (s : Store) → Leads blank xs s → (n : ℕ) → step append s .answer ≡ Refused 4 n → Waiting s (tell xs nothing) n
-waits xs s l = waits-tied s (tell xs nothing) (tied-leads l nothing tied-blank)

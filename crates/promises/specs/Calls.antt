@@ -1,7 +1,6 @@
 -- Every call of the library with all its arguments, and a run of calls over the two lent areas: each step is the definition that the call's contract cites,
 -- its answer in document 01's numbers. Assumes nothing.
 use mathlib.Core.List.{List, [], _∷_}
-use mathlib.Core.Path.{_≡_}
 use Prim.Native.Nat.{ℕ, _^_, _<_}
 use Rattle.octets.specs.Number.{Bytes}
 use Rattle.answers.specs.declared.Answer.{Answer}
@@ -26,7 +25,7 @@ use Rattle.ending.specs.Dropping.{dropTransactionCall}
 pub data Call : Type 0 where
   format : (slots : ℕ) → Call
   store append reader truncate : Call
-  openTape : (transaction : ℕ) → (name : List ℕ) → (entry size cache start : ℕ) → Call
+  openTape : (transaction : ℕ) → (name : List ℕ) → (entry fileSize cache start : ℕ) → Call
   appendEntries : (transaction handle : ℕ) → (bs : List ℕ) → Call
   shiftStart truncateTape dropEntries : (transaction handle n : ℕ) → Call
   popEntry : (transaction handle : ℕ) → (buffer : List ℕ) → Call

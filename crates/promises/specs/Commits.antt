@@ -1,5 +1,5 @@
 -- A commit in a running session. Assumes nothing.
-use mathlib.Core.Path.{_≡_, refl, sym, ap, _∙_}
+use mathlib.Core.Path.{_≡_, refl, ap, _∙_}
 use mathlib.Core.Logic.{inl}
 use mathlib.Core.Bool.{true, false}
 use mathlib.Core.List.{List}
@@ -7,7 +7,7 @@ use Prim.Native.Nat.{ℕ, _+_, _<_}
 use lib.ListN.{length}
 use Rattle.octets.specs.Cases.{decide}
 use Rattle.answers.specs.Answers.{codeOf}
-use Rattle.rolling_tape.specs.Removal.{Areas, areas}
+use Rattle.rolling_tape.specs.Removal.{areas}
 use Rattle.staging.specs.Seeing.{writes}
 use Rattle.ending.specs.Committing.{commitCall}
 use Rattle.lives.specs.Life as L
@@ -21,8 +21,8 @@ use Rattle.seen.specs.AppendOrder.{shut, commit-append-orderly, commit-append-h
 use Rattle.seen.specs.CommitAppends.{commit-append-seen, commit-append-answer, inside-all}
 use Rattle.seen.specs.CutLeaves.{commit-cut-orderly}
 use Rattle.seen.specs.CommitCuts.{commit-cut-starts, commit-cut-seen, commit-cut-answer, commit-cut-handled}
-use Rattle.promises.specs.Told.{Known, tellAs, calls}
-use Rattle.promises.specs.Holds.{Holds, Moves, moved}
+use Rattle.promises.specs.Told.{tellAs, calls}
+use Rattle.promises.specs.Holds.{moved}
 use Rattle.promises.specs.Standing.{Lore, Running}
 
 -- a commit that the areas have followed, of every tape

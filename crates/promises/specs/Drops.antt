@@ -9,15 +9,14 @@ use borrow.Author.Tests.{eqb-true}
 use lib.Dec.{eqb}
 use lib.ListN.{length}
 use Rattle.octets.specs.Cases.{picked, order}
-use Rattle.octets.specs.declared.Found.{Found}
-use Rattle.octets.specs.declared.Found.the-variants.{At, Nothing}
+use Rattle.octets.specs.declared.Found.the-variants.{At}
 use Rattle.answers.specs.Answers.{codeOf}
 use Rattle.session.specs.MeaningLaws.{isOpen}
 use Rattle.session.specs.declared.transactions.Kind.{Kind}
 use Rattle.session.specs.declared.transactions.Kind.the-variants as Kinds
 use Rattle.layout.specs.Session.{kindWord}
 use Rattle.session.specs.Rows.{kindFor, transactionOf, findTransaction}
-use Rattle.rolling_tape.specs.Removal.{Areas, areas}
+use Rattle.rolling_tape.specs.Removal.{areas}
 use Rattle.beginning.specs.Laws.{refusal-some}
 use Rattle.beginning.specs.Transactions.{After}
 use Rattle.ending.specs.Dropping.{dropTransactionCall}
@@ -34,8 +33,8 @@ use Rattle.seen.specs.Closes.{drop-truncate-orderly, drop-truncate-handled, dro
 use Rattle.seen.specs.CloseStarts.{drop-reader-starts, drop-truncate-starts}
 use Rattle.seen.specs.DropLeaves.{drop-append-orderly}
 use Rattle.seen.specs.Drops.{drop-append-starts, drop-append-answer, drop-append-seen, drop-append-handles}
-use Rattle.promises.specs.Told.{Known, tellAs, calls}
-use Rattle.promises.specs.Holds.{Holds, Moves, moved}
+use Rattle.promises.specs.Told.{tellAs, calls}
+use Rattle.promises.specs.Holds.{Holds, moved}
 use Rattle.promises.specs.Standing.{Lore, Running}
 
 -- the areas have followed, of every tape; a tape that the dropped append had made has no handle any more

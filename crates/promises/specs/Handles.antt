@@ -1,27 +1,23 @@
 -- Calls on a handle, in a running session: the handle's tape follows, every other tape is as it was. Assumes nothing.
 use mathlib.Core.Path.{_≡_, refl, sym, ap, _∙_, subst}
 use mathlib.Core.Logic.{_≢_, inl}
-use mathlib.Core.Bool.{Bool, true, false, cond, not, _&&_, true≢false}
+use mathlib.Core.Bool.{Bool, true, false, cond, not, true≢false}
 use mathlib.Core.List.{List}
-use Prim.Native.Nat.{ℕ, _+_, _*_, _-_, _/_, _^_, _<_, _≤_}
-use native.Mathlib.Nat.{div-le-self}
+use Prim.Native.Nat.{ℕ, _*_, _-_, _/_}
 use native.Mathlib.Omega.{arith}
-use borrow.Author.Tests.{eq-eqb, ne-eqb, eqb-true, eqb-false}
+use borrow.Author.Tests.{eq-eqb, ne-eqb, eqb-true}
 use lib.Dec.{eqb}
 use lib.ListN.{length}
-use Rattle.octets.specs.Cases.{picked, decide, and-both, and-r}
+use Rattle.octets.specs.Cases.{picked, and-both, and-r}
 use Rattle.octets.specs.Number.{Bytes}
-use Rattle.octets.specs.declared.Found.the-variants.{At}
 use Rattle.answers.specs.declared.OneEntry.{OneEntry}
 use Rattle.answers.specs.declared.OneEntry.the-variants.{Entry, NoEntry}
 use Rattle.answers.specs.declared.OneEntry.the-variants as One
-use Rattle.answers.specs.Answers.{codeOf, valueOf, entryCodeOf, entryValueOf}
-use Rattle.answers.specs.Outcome.{Popping}
+use Rattle.answers.specs.Answers.{codeOf, entryCodeOf, entryValueOf}
 use Rattle.beginning.specs.Laws.{refusal-some}
 use Rattle.layout.specs.Names.{name}
 use Rattle.layout.specs.Session.{namesAt, entrySize}
-use Rattle.session.specs.Rows.{findHandle}
-use Rattle.rolling_tape.specs.Removal.{Areas, areas}
+use Rattle.rolling_tape.specs.Removal.{areas}
 use Rattle.staging.specs.Shifting.{shiftCall}
 use Rattle.staging.specs.Cutting.{cutCall, dropCall}
 use Rattle.appending.specs.Calls.{putCall}
@@ -31,8 +27,7 @@ use Rattle.lives.specs.Life as L
 use Rattle.lives.specs.Told.{Staging, idle, appending, cutting}
 use Rattle.lives.specs.Told as T
 use Rattle.lives.specs.Invariant.{Phys, build, eraseW}
-use Rattle.seen.specs.Orderly.{Orderly}
-use Rattle.seen.specs.Seen.{Seen, Handled}
+use Rattle.seen.specs.Seen.{Handled}
 use Rattle.seen.specs.Starts.{CutStarts}
 use Rattle.seen.specs.Touching.{OnHandle, Leads, stagedLen}
 use Rattle.seen.specs.Handles.{handle-some, handle-letters, handle-handled}
@@ -41,7 +36,7 @@ use Rattle.seen.specs.Cuts.{cut-to, cut-on, cut-own, drop-to, drop-on, drop-own
 use Rattle.seen.specs.Puts.{put-found, put-on, put-own}
 use Rattle.seen.specs.StageStarts.{shift-starts, put-starts, cuts-starts}
 use Rattle.promises.specs.Told.{Known, Concern, apart, calls, isOurs, ifOurs, stagedLength, entriesLeft, lastAfter, tellAs}
-use Rattle.promises.specs.Holds.{Holds, Moves, moved}
+use Rattle.promises.specs.Holds.{Holds, moved}
 use Rattle.promises.specs.Standing.{Lore, Running}
 
 -- the handle's tape has followed the call c, which is told with the value v
@@ -98,7 +93,7 @@ module _ (d s e u : List ℕ) (h : ℕ) (K : Lore) (r : Running (areas d s) K) (
 
 -- ---- the length that the writer has staged, there and here
 
-staged-same : (epoch : ℕ) (w : Staging) → stagedLen (eraseW epoch w) ≡ stagedLength w
+pub staged-same : (epoch : ℕ) (w : Staging) → stagedLen (eraseW epoch w) ≡ stagedLength w
 staged-same epoch idle = refl
 staged-same epoch (appending m h c s) = refl
 staged-same epoch (cutting m c) = refl

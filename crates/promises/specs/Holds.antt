@@ -1,18 +1,17 @@
 -- What ties the areas to what is told of the tape of a name, and how a call of `lives` that the areas follow takes it on. Assumes nothing.
 use mathlib.Core.Path.{_≡_, refl, sym, ap, _∙_, subst}
 use mathlib.Core.Logic.{_≢_, _⊎_, inl, inr}
-use mathlib.Core.Bool.{Bool, true, false, cond, not, _&&_}
+use mathlib.Core.Bool.{Bool, false, cond, not, _&&_}
 use mathlib.Core.Option.{Option, none, some}
-use mathlib.Core.List.{List, []}
-use Prim.Native.Nat.{ℕ, _+_, _-_, min, max}
+use mathlib.Core.List.{List}
+use Prim.Native.Nat.{ℕ, _+_, _-_, max}
 use native.Mathlib.Omega.{arith}
 use lib.Dec.{eqb, ltb, leb}
 use lib.ListN.{length}
-use borrow.Author.Tests.{eqb-true, ne-eqb, eq-eqb}
-use Rattle.octets.specs.Cases.{picked, decide, equal}
+use borrow.Author.Tests.{ne-eqb, eq-eqb}
+use Rattle.octets.specs.Cases.{picked, equal}
 use Rattle.octets.specs.declared.Found.{Found}
 use Rattle.octets.specs.declared.Found.the-variants.{At, Nothing}
-use Rattle.layout.specs.Session.{handleNumber}
 use Rattle.rolling_tape.specs.Removal.{Areas}
 use Rattle.components.specs.Epochs.{older}
 use Rattle.held.specs.Held.{load}
@@ -20,7 +19,7 @@ use Rattle.lives.specs.Life.{Store, Writer, After, Answer, Done, Refused}
 use Rattle.lives.specs.Life as L
 use Rattle.lives.specs.Told.{Told}
 use Rattle.lives.specs.Told as T
-use Rattle.lives.specs.Invariant.{Phys, Good, Goes, build}
+use Rattle.lives.specs.Invariant.{Phys, Good, build}
 use Rattle.lives.specs.Steps.{keeps}
 use Rattle.seen.specs.Seen.{placeOf, liveIn, handleIn, Seen, Handled}
 use Rattle.promises.specs.Told.{Known, lastAfter, afterwards}

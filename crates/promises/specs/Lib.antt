@@ -1,6 +1,7 @@
 pub mod Calls
 pub mod Told
 pub mod Promise
+pub mod Theorems
 pub mod Examples
 pub mod Sizes
 pub mod Refused
@@ -18,13 +19,16 @@ pub mod Runs
 pub mod Reading
 pub mod Others
 pub mod Outside
+pub mod OneElse
 pub mod Since
 pub mod Waiting
 pub mod Always
 pub mod Rooms
 pub mod Proper
+pub mod Wholes
+pub mod Puts
 pub mod StaysOpen
 pub mod Pages
 pub mod Places
+pub mod Serves
 pub mod StillRead
-pub mod Theorems

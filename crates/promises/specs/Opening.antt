@@ -1,12 +1,11 @@
 -- A tape opened in a running session: its own name, and every other. Assumes nothing.
 use mathlib.Core.Path.{_≡_, refl, sym, ap, _∙_, subst}
 use mathlib.Core.Logic.{_≢_}
-use mathlib.Core.Bool.{Bool, true, false, cond, true≢false, false≢true, _&&_}
-use mathlib.Core.List.{List, []}
-use Prim.Native.Nat.{ℕ, _+_, _^_, _<_}
+use mathlib.Core.Bool.{Bool, true, false, cond, true≢false, false≢true}
+use mathlib.Core.List.{List}
+use Prim.Native.Nat.{ℕ, _^_, _<_}
 use native.Mathlib.Omega.{arith}
 use borrow.Author.Tests.{eq-eqb}
-use lib.Dec.{eqb}
 use lib.ListN.{length}
 use Rattle.octets.specs.Cases.{picked, decide}
 use Rattle.octets.specs.Compare.{sameBytes, same-true, same-refl}
@@ -15,24 +14,21 @@ use Rattle.octets.specs.declared.Found.{Found}
 use Rattle.octets.specs.declared.Found.the-variants.{At, Nothing}
 use Rattle.answers.specs.Answers.{codeOf, valueOf}
 use Rattle.layout.specs.Session.{namesAt}
-use Rattle.session.specs.declared.transactions.Kind.{Kind}
-use Rattle.session.specs.declared.transactions.Kind.the-variants as K
 use Rattle.session.specs.declared.views.View.{View}
-use Rattle.session.specs.Rows.{headOf, viewOf, transactionOf, stagedOf}
-use Rattle.rolling_tape.specs.Removal.{Areas, areas}
+use Rattle.session.specs.Rows.{viewOf, transactionOf, stagedOf}
+use Rattle.rolling_tape.specs.Removal.{areas}
 use Rattle.beginning.specs.Transactions.{isOpenAt}
 use Rattle.staging.specs.Seeing.{seenBy, isTruncate}
 use Rattle.opening.specs.Calls.{openCall}
 use Rattle.lives.specs.Life as L
 use Rattle.lives.specs.Told.{Staging, idle, appending, cutting, isHere}
-use Rattle.lives.specs.Told as T
 use Rattle.lives.specs.Invariant.{build, eraseW}
 use Rattle.seen.specs.Orderly.{Orderly}
-use Rattle.seen.specs.Seen.{placeOf, shown, stagedIn, writerAs, writerIn, viewIn, Seen, Handled}
+use Rattle.seen.specs.Seen.{placeOf, shown, stagedIn, writerIn, viewIn, Seen, Handled}
 use Rattle.seen.specs.Places.{found-low}
-use Rattle.seen.specs.OpensServed.{Served, open-served}
+use Rattle.seen.specs.OpensServed.{open-served}
 use Rattle.seen.specs.Opens.{openMemory, open-answers, open-orderly, open-writer, open-seen-other, open-handled-other, open-handled, open-seen, open-steps}
-use Rattle.promises.specs.Told.{Known, Concern, apart, opens, tellAs, oldSize}
+use Rattle.promises.specs.Told.{Concern, apart, opens, tellAs, oldSize}
 use Rattle.promises.specs.Holds.{Holds, followed}
 use Rattle.promises.specs.Standing.{Lore, Running}
 

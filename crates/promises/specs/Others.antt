@@ -19,7 +19,7 @@ use Rattle.seen.specs.Handles.{handle-place}
 use Rattle.seen.specs.Reads.{entry-served, pop-served, put-answer}
 use Rattle.promises.specs.Calls.{appendEntries, popEntry, readEntry, Result, result, ofEntering, ofPopping, step}
 use Rattle.promises.specs.Standing.{Lore, Running}
-use Rattle.promises.specs.Promise.{ends, known, ReadsOne, Pops, Puts}
+use Rattle.promises.specs.Promise.{ends, known, ReadsOne, Pops}
 use Rattle.promises.specs.Runs.{stands-last}
 use Rattle.promises.specs.Reading.{front, with-handle}
 
@@ -62,7 +62,7 @@ module _ (d s : List ℕ) (K : Lore) (r : Running (areas d s) K) (n : List ℕ) 
         (ap (λ (x : Result). x .value) is, ap (λ (x : Result). x .buffer) is ∙ front c buffer (last * e) e inside room),
       )
 
-  put-running : (bs c : List ℕ) (here : Bool) (start : ℕ) → K n .tape .writer ≡ appending t here c start
+  pub put-running : (bs c : List ℕ) (here : Bool) (start : ℕ) → K n .tape .writer ≡ appending t here c start
       → step (appendEntries t (K n .handle) bs) (areas d s) .code ≡ 0 → step (appendEntries t (K n .handle) bs) (areas d s) .value ≡ length c / K n .entry
   unfolding step
   put-running bs c here start writer ok =
@@ -79,8 +79,3 @@ pub pops : Pops
 pops r n long t c buffer handle =
     let a = ends r in
     pop-running (a .disk) (a .session) (known r) (with-handle a (known r) n long handle (stands-last r)) n long handle t c buffer
-
-pub puts : Puts
-puts r n long t bs c here start handle =
-    let a = ends r in
-    put-running (a .disk) (a .session) (known r) (with-handle a (known r) n long handle (stands-last r)) n long handle t bs c here start

@@ -185,7 +185,7 @@ module _ (d s n : List ℕ) (o : Orderly d s) (t : Told) (p : Phys) (seen : Seen
 -- ---- the three answers
 
 -- outside of a page's bounds, in entries
-abbrev Beyond : ℕ → ℕ → ℕ → Page → Type 0
+abbrev pub Beyond : ℕ → ℕ → ℕ → Page → Type 0
 Beyond entry i count q = (i * entry < q .start) ⊎ (length (q .content) < (i + count) * entry)
 
 beyond : (entry i count : ℕ) (q : Page) → Beyond entry i count q → inBounds entry (q .start) (length (q .content)) i count ≡ false
@@ -218,7 +218,7 @@ module _ (d s : List ℕ) (K : Lore) (r : Running (areas d s) K) (n : List ℕ) 
         read-goes d s t (K n .handle) i count buffer ok (x .place) (x .found) (its .place) (its .found)
         ∙ read-absent d s (x .place) (its .place) i count buffer _ refl (x .unlisted)
 
-    beyond-read : q .here ≡ true → Beyond (K n .entry) i count q → readCall d s t (K n .handle) i count buffer ≡ refusedRead OutOfBounds buffer
+    pub beyond-read : q .here ≡ true → Beyond (K n .entry) i count q → readCall d s t (K n .handle) i count buffer ≡ refusedRead OutOfBounds buffer
     beyond-read here far =
         let x = sight d s n (r .orderly) (r .starts) (K n .tape) (own .phys) (own .seen) (its .place) (its .at) t q is here in
         read-goes d s t (K n .handle) i count buffer ok (x .place) (x .found) (its .place) (its .found)

@@ -1,5 +1,5 @@
 -- A page never changes: while a window is open, whatever is called, it is told the same of every tape, and reads the same bytes. By the induction of
--- `Places.antt`. Assumes nothing.
+-- `StaysOpen.antt`. Assumes nothing.
 use mathlib.Core.Path.{_≡_, refl, sym, ap, _∙_, subst}
 use mathlib.Core.Logic.{_≢_, inl}
 use mathlib.Core.Bool.{Bool, true, false, false≢true}

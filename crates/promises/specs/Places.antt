@@ -1,10 +1,11 @@
--- Two puts of the same bytes get two places: what an append has staged only grows while it is open. Assumes nothing.
+-- Two puts of the same bytes get two places: what an append has staged only grows while it is open, and bytes that are put are at least one entry. Assumes
+-- nothing.
 use mathlib.Core.Path.{_≡_, refl, sym, ap, _∙_, subst}
 use mathlib.Core.Logic.{_≢_, inr}
 use mathlib.Core.Bool.{Bool, true, false, cond, not}
 use mathlib.Core.List.{List, _∷_, _++_}
-use Prim.Native.Nat.{ℕ, _+_, _/_, _≤_, _<_, max}
-use native.Mathlib.Nat.{add-mul, div-zero, div-mul-le-self, le-div-iff-mul-le}
+use Prim.Native.Nat.{ℕ, _+_, _/_, _≤_, _<_, _∣_, max}
+use native.Mathlib.Nat.{one-mul, add-mul, div-zero, div-mul-le-self, le-div-iff-mul-le, le-of-dvd, pos-of-dvd-of-pos}
 use native.Mathlib.Omega.{arith}
 use borrow.Author.Tests.{eq-eqb, ne-eqb, eqb-false}
 use lib.Dec.{eqb}
@@ -13,7 +14,7 @@ use Rattle.octets.specs.Cases.{picked, equal, and-both}
 use Rattle.octets.specs.Number.{Bytes}
 use Rattle.answers.specs.Answers.{codeOf, valueOf}
 use Rattle.session.specs.Rows.{transactionOf}
-use Rattle.rolling_tape.specs.Removal.{Areas, areas}
+use Rattle.rolling_tape.specs.Removal.{Areas}
 use Rattle.staging.specs.Seeing.{touchedAs}
 use Rattle.staging.specs.Ways.{handle-found}
 use Rattle.appending.specs.Calls.{putCall}
@@ -25,13 +26,14 @@ use Rattle.seen.specs.Seen.{Handled}
 use Rattle.seen.specs.Handles.{handle-own}
 use Rattle.seen.specs.Touching.{stagedLen, append-writer}
 use Rattle.seen.specs.Puts.{put-found, put-value}
-use Rattle.promises.specs.Calls.{Call, append, reader, truncate, appendEntries, commit, AllFit, step, exchange, run, history}
+use Rattle.promises.specs.Calls.{Call, append, appendEntries, AllFit, step, exchange, run, history}
 use Rattle.promises.specs.Told.{Known, unknown, Concern, apart, anew, opens, calls, concerns, isOurs, tellAs, told, tell, OldSizes}
-use Rattle.promises.specs.Standing.{Lore, Running, Standing, running}
+use Rattle.promises.specs.Standing.{Lore, Running, Standing}
 use Rattle.promises.specs.Promise.{ends, known, isWriter, Served, keepsOpen, TwoPlaces}
 use Rattle.promises.specs.Steps.{stands, told-served}
 use Rattle.promises.specs.Runs.{runs, stands-last}
 use Rattle.promises.specs.Reading.{with-handle}
+use Rattle.promises.specs.Wholes.{put-entire}
 use Rattle.promises.specs.StaysOpen.{KeepsCall, KeepsTape, Kept, lasts, handle-kept}
 
 -- ---- what an append has staged only grows
@@ -143,7 +145,12 @@ sum-div a b c e l =
     (λ (z : e ≡ 0). rw (z, div-zero a, div-zero b) (omega arith))
     (λ (nonzero : e ≢ 0). le-div-iff-mul-le (omega arith) .1 (omega (arith, add-mul (a / e) (b / e) e, div-mul-le-self a e, div-mul-le-self b e)))
 
-module _ (a : Areas) (K : Lore) (n : List ℕ) (long : 0 < length n) (t : ℕ) (bs : List ℕ) (rest : List Call) (more : K n .handle ≢ 0) where
+-- bytes that are whole entries are at least one
+some-entry : (e len : ℕ) → e ∣ len → 0 < len → 1 ≤ len / e
+some-entry e len entire some-bytes =
+    le-div-iff-mul-le (pos-of-dvd-of-pos entire some-bytes) .1 (omega (arith, le-of-dvd some-bytes entire, one-mul e))
+
+module _ (a : Areas) (K : Lore) (n : List ℕ) (long : 0 < length n) (t : ℕ) (bs : List ℕ) (rest : List Call) (some-bytes : 0 < length bs) (more : K n .handle ≢ 0) where
   abbrev h : ℕ
   h = K n .handle
 
@@ -170,7 +177,8 @@ module _ (a : Areas) (K : Lore) (n : List ℕ) (long : 0 < length n) (t : ℕ) (
       (record { staged = long-as; handle-is = kept .0; entry-is = kept .1 })
 
   two-from : AllFit (c ∷ rest) → ((m : List ℕ) → OldSizes m (history (c ∷ rest) a) (K m)) → Standing a K → Served (keepsOpen t) (history (c ∷ rest) a)
-      → step c a .code ≡ 0 → step c (run (c ∷ rest) a) .code ≡ 0 → step c a .value + length bs / e ≤ step c (run (c ∷ rest) a) .value
+      → step c a .code ≡ 0 → step c (run (c ∷ rest) a) .code ≡ 0
+      → (step c a .value < step c (run (c ∷ rest) a) .value) × (step c a .value + length bs / e ≤ step c (run (c ∷ rest) a) .value)
   unfolding run history step
   two-from fit old st stays first second =
       let r = with-handle a K n long more st in
@@ -189,16 +197,19 @@ module _ (a : Areas) (K : Lore) (n : List ℕ) (long : 0 < length n) (t : ℕ) (
       = subst (λ (y : ℕ). Handled (run rest b .session) n y e) (p .handle-is)
       (subst (λ (y : ℕ). Handled (run rest b .session) n (N n .handle) y) (p .entry-is) (q .holds n long .handled)) in
       let is = put-place (run rest b) N q n long h e its t bs second bytes len (p .staged) in
-      omega (arith, was, is, sum-div (length (x .content)) (length bs) (length (p .staged .content)) e (p .staged .enough))
+      let behind : step c a .value + length bs / e ≤ step c (run rest b) .value
+      = omega (arith, was, is, sum-div (length (x .content)) (length bs) (length (p .staged .content)) e (p .staged .enough)) in
+      let entire = put-entire (a .disk) (a .session) K r n t h e bs (r .holds n long .handled) first in
+      (omega (arith, behind, some-entry e (length bs) entire some-bytes), behind)
 
 pub two-places : TwoPlaces
-two-places r f n long t bs rest bytes-some more is stays first second =
+two-places r f n long t bs rest some-bytes more is stays first second =
     let a = ends r in
     let K = known r in
     let c = appendEntries t (known r n .handle) bs in
     subst
     (λ (cs : List Call). AllFit cs → ((m : List ℕ) → OldSizes m (history cs a) (K m)) → Served (keepsOpen t) (history cs a) → step c (run cs a) .code ≡ 0
-    → step c a .value + length bs / K n .entry ≤ step c (run cs a) .value)
+    → (step c a .value < step c (run cs a) .value) × (step c a .value + length bs / K n .entry ≤ step c (run cs a) .value))
     (sym is)
-    (λ fit old open-still again. two-from a K n long t bs rest more fit old (stands-last r) open-still first again)
+    (λ fit old open-still again. two-from a K n long t bs rest some-bytes more fit old (stands-last r) open-still first again)
     (f .fit) (f .sizes) stays second

@@ -59,7 +59,8 @@ module _ (r : Run) (f : Further r) where
 -- ---- (a) reads
 
 -- any read of any number of entries, in any open transaction, on the handle of any tape, that lies inside told's bounds, with room in the buffer: it is
--- answered with that number, the buffer's front holds told's bytes, and the rest of it and both areas are unchanged. Names have at least one byte
+-- answered with that number, the buffer's front holds told's bytes, and the rest of it and both areas are unchanged. (Names have at least one byte: an opening
+-- of the empty one is 6.)
 abbrev pub Reads : Type 0
 Reads = (r : Run) (n : List ℕ) → 0 < length n → (t i count : ℕ) (buffer : List ℕ) (q : Page)
     → known r n .handle ≢ 0
@@ -176,6 +177,14 @@ Pops = (r : Run) (n : List ℕ) → 0 < length n → (t : ℕ) (c buffer : List 
     × (step (popEntry t (known r n .handle) buffer) (ends r) .buffer
     ≡ take (known r n .entry) (drop ((length c / known r n .entry - 1) * known r n .entry) c) ++ drop (known r n .entry) buffer))
 
+-- where there is none, told's length or start says so, and nothing is changed
+abbrev pub PopsNone : Type 0
+PopsNone = (r : Run) (n : List ℕ) → 0 < length n → (t : ℕ) (c buffer : List ℕ)
+    → known r n .handle ≢ 0
+    → known r n .tape .writer ≡ cutting t c
+    → (length c / known r n .entry ≡ 0) ⊎ ((length c / known r n .entry - 1) * known r n .entry < known r n .tape .start)
+    → step (popEntry t (known r n .handle) buffer) (ends r) ≡ result 0 0xffff_ffff_ffff_ffff (ends r) buffer
+
 -- outside told's bounds a read is 12, of a tape that the transaction does not see 11, of no open transaction 2
 abbrev pub ReadsElse : Type 0
 ReadsElse = (r : Run) (n : List ℕ) → 0 < length n → (t i count : ℕ) (buffer : List ℕ)
@@ -185,6 +194,22 @@ ReadsElse = (r : Run) (n : List ℕ) → 0 < length n → (t i count : ℕ) (buf
     → (q .here ≡ false → step (readEntries t (known r n .handle) i count buffer) (ends r) .code ≡ 11)
     × (q .here ≡ true → (i * known r n .entry < q .start) ⊎ (length (q .content) < (i + count) * known r n .entry)
     → step (readEntries t (known r n .handle) i count buffer) (ends r) .code ≡ 12))
+
+-- and one entry is none
+abbrev pub ReadsOneElse : Type 0
+ReadsOneElse = (r : Run) (n : List ℕ) → 0 < length n → (t i : ℕ) (buffer : List ℕ) (q : Page)
+    → known r n .handle ≢ 0
+    → page t (known r n .tape) ≡ some q → q .here ≡ true
+    → (i * known r n .entry < q .start) ⊎ (length (q .content) < (i + 1) * known r n .entry)
+    → step (readEntry t (known r n .handle) i buffer) (ends r) ≡ result 0 0xffff_ffff_ffff_ffff (ends r) buffer
+
+-- length and start, in entries
+abbrev pub Lengths : Type 0
+Lengths = (r : Run) (n : List ℕ) → 0 < length n → (t : ℕ) (q : Page)
+    → known r n .handle ≢ 0
+    → page t (known r n .tape) ≡ some q → q .here ≡ true
+    → (step (tapeLen t (known r n .handle)) (ends r) ≡ result 0 (length (q .content) / known r n .entry) (ends r) [])
+    × (step (tapeStart t (known r n .handle)) (ends r) ≡ result 0 (q .start / known r n .entry) (ends r) [])
 
 -- ---- corollaries: a page never changes
 
@@ -228,49 +253,70 @@ ReadsAgain = (r : Run) (f : Further r) (n : List ℕ) → 0 < length n → (t i 
 
 -- ---- corollaries: a message is the place where it was appended
 
--- a put answers where its bytes stand: at the end of what was staged before it
+-- a put answers where its bytes stand: the index of the entry that begins where the staged bytes end
 abbrev pub Puts : Type 0
 Puts = (r : Run) (n : List ℕ) → 0 < length n → (t : ℕ) (bs c : List ℕ) (here : Bool) (start : ℕ)
     → known r n .handle ≢ 0 → known r n .tape .writer ≡ appending t here c start
     → step (appendEntries t (known r n .handle) bs) (ends r) .code ≡ 0
-    → step (appendEntries t (known r n .handle) bs) (ends r) .value ≡ length c / known r n .entry
+    → step (appendEntries t (known r n .handle) bs) (ends r) .value * known r n .entry ≡ length c
 
--- two puts of the same bytes get two places, whatever is called between them in the same append
+-- two puts of the same bytes get two places, whatever is called between them in the same append. (A place that was dropped or cut off is given again.)
 abbrev pub TwoPlaces : Type 0
 TwoPlaces = (r : Run) (f : Further r) (n : List ℕ) → 0 < length n → (t : ℕ) (bs : List ℕ) (rest : List Call)
     → 0 < length bs → known r n .handle ≢ 0
     → f .calls ≡ appendEntries t (known r n .handle) bs ∷ rest → Served (keepsOpen t) (history (f .calls) (ends r))
     → step (appendEntries t (known r n .handle) bs) (ends r) .code ≡ 0
     → step (appendEntries t (known r n .handle) bs) (endsThen r f) .code ≡ 0
-    → step (appendEntries t (known r n .handle) bs) (ends r) .value + length bs / known r n .entry ≤ step (appendEntries t (known r n .handle) bs) (endsThen r f) .value
+    → (step (appendEntries t (known r n .handle) bs) (ends r) .value < step (appendEntries t (known r n .handle) bs) (endsThen r f) .value)
+    × (step (appendEntries t (known r n .handle) bs) (ends r) .value + length bs / known r n .entry ≤ step (appendEntries t (known r n .handle) bs) (endsThen r f) .value)
+
+-- the directory of an open tape is there: no put is refused with 16
+abbrev pub PutsFind : Type 0
+PutsFind = (r : Run) (t h : ℕ) (bs : List ℕ) → step (appendEntries t h bs) (ends r) .code ≢ 16
 
 -- ---- corollaries: what is committed outlives the session
 
--- from any run that has a listed tape: a `store`, an append and an opening of the tape with its old file size are served, and every committed byte is read;
--- what was staged is gone
+-- a `store`, and an append behind it
+module _ (r : Run) where
+  abbrev pub afterStore : Result
+  afterStore = step store (ends r)
+
+  abbrev pub afterAppend : Result
+  afterAppend = step append (afterStore .areas)
+
+-- and an opening of a tape with its old file size
 module _ (r : Run) (n : List ℕ) (entry cache start : ℕ) where
-  abbrev pub stored : Result
-  stored = step store (ends r)
+  abbrev pub afterOpen : Result
+  afterOpen = step (openTape 1 n entry (known r n .tape .size) cache start) (afterAppend r .areas)
 
-  abbrev pub begun : Result
-  begun = step append (stored .areas)
-
-  abbrev pub reopened : Result
-  reopened = step (openTape 1 n entry (known r n .tape .size) cache start) (begun .areas)
-
+-- from any run that has a listed tape, the three are served, and every committed byte from the start on is read; what was staged is gone
 abbrev pub StillRead : Type 0
 StillRead = (r : Run) (n : List ℕ) → 0 < length n → (entry cache start : ℕ) (buffer : List ℕ)
     → known r n .tape .listed ≡ true
     → 1 ≤ entry → entry ≤ 256 → length (known r n .tape .content) % entry ≡ 0 → known r n .tape .start % entry ≡ 0
     → 1 ≤ cache → cache ≤ 4096 → Word start → Bytes n → length (known r n .tape .content) - known r n .tape .start ≤ length buffer
-    → (stored r n entry cache start .code ≡ 0) × ((stored r n entry cache start .value ≡ known r n .tape .epoch)
-    × ((begun r n entry cache start .code ≡ 0) × ((begun r n entry cache start .value ≡ 1)
-    × ((reopened r n entry cache start .code ≡ 0) × ((reopened r n entry cache start .value ≡ 1)
+    → (afterStore r .code ≡ 0) × ((afterStore r .value ≡ known r n .tape .epoch)
+    × ((afterAppend r .code ≡ 0) × ((afterAppend r .value ≡ 1)
+    × ((afterOpen r n entry cache start .code ≡ 0) × ((afterOpen r n entry cache start .value ≡ 1)
     × (step
     (readEntries 1 1 (known r n .tape .start / entry) ((length (known r n .tape .content) - known r n .tape .start) / entry) buffer)
-    (reopened r n entry cache start .areas)
-    ≡ result 0 ((length (known r n .tape .content) - known r n .tape .start) / entry) (reopened r n entry cache start .areas)
+    (afterOpen r n entry cache start .areas)
+    ≡ result 0 ((length (known r n .tape .content) - known r n .tape .start) / entry) (afterOpen r n entry cache start .areas)
     (drop (known r n .tape .start) (known r n .tape .content) ++ drop (length (known r n .tape .content) - known r n .tape .start) buffer)))))))
+
+-- in any open append a listed tape that has no handle is opened with its old file size, as long as handle numbers remain
+abbrev pub Reopens : Type 0
+Reopens = (r : Run) (n : List ℕ) → 0 < length n → (t entry cache start : ℕ) (here : Bool) (c : List ℕ) (s : ℕ)
+    → known r n .tape .writer ≡ appending t here c s → known r n .tape .listed ≡ true → known r n .handle ≡ 0
+    → 1 ≤ entry → entry ≤ 256 → length (known r n .tape .content) % entry ≡ 0 → known r n .tape .start % entry ≡ 0
+    → 1 ≤ cache → cache ≤ 4096
+    → step (openTape t n entry (known r n .tape .size) cache start) (ends r) .code ≢ 18
+    → step (openTape t n entry (known r n .tape .size) cache start) (ends r) .code ≡ 0
+
+-- an open transaction can be dropped
+abbrev pub Closes : Type 0
+Closes = (r : Run) (n : List ℕ) → 0 < length n → (t : ℕ) (q : Page)
+    → page t (known r n .tape) ≡ some q → step (dropTransaction t) (ends r) .code ≡ 0
 
 -- ---- corollaries: a refused call, from any areas at all
 
@@ -310,10 +356,16 @@ pub record Promised : Type 0 where
   pub commits-served : CommitsServed
   pub reads-one : ReadsOne
   pub pops : Pops
+  pub pops-none : PopsNone
   pub reads-else : ReadsElse
+  pub reads-one-else : ReadsOneElse
+  pub lengths : Lengths
   pub page-stands : PageStands
   pub reads-again : ReadsAgain
   pub puts : Puts
   pub two-places : TwoPlaces
+  pub puts-find : PutsFind
   pub still-read : StillRead
+  pub reopens : Reopens
+  pub closes : Closes
   pub refused-leaves : RefusedLeaves

@@ -206,13 +206,13 @@ module _ (r : Run) where
 -- ---- the writer's commit
 
 -- the told writer has the writer's place
-append-writes : (k : Kind) (number epoch : ℕ) (v : View) (m e : ℕ) (h : Bool) (l st : ℕ) → writerAs k number epoch v ≡ L.appending m e h l st → (isAppend k && eqb number m) ≡ true
+pub append-writes : (k : Kind) (number epoch : ℕ) (v : View) (m e : ℕ) (h : Bool) (l st : ℕ) → writerAs k number epoch v ≡ L.appending m e h l st → (isAppend k && eqb number m) ≡ true
 append-writes Kinds.Closed number epoch v m e h l st is = let z : _≡_ {A = ℕ} 0 1 = cc in absurd (omega arith)
 append-writes Kinds.Reader number epoch v m e h l st is = let z : _≡_ {A = ℕ} 0 1 = cc in absurd (omega arith)
 append-writes Kinds.Append number epoch v m e h l st is = eq-eqb number m cc
 append-writes Kinds.Truncate number epoch v m e h l st is = let z : _≡_ {A = ℕ} 0 1 = cc in absurd (omega arith)
 
-truncate-cuts : (k : Kind) (number epoch : ℕ) (v : View) (m l : ℕ) → writerAs k number epoch v ≡ L.cutting m l → (isTruncate k && eqb number m) ≡ true
+pub truncate-cuts : (k : Kind) (number epoch : ℕ) (v : View) (m l : ℕ) → writerAs k number epoch v ≡ L.cutting m l → (isTruncate k && eqb number m) ≡ true
 truncate-cuts Kinds.Closed number epoch v m l is = let z : _≡_ {A = ℕ} 0 1 = cc in absurd (omega arith)
 truncate-cuts Kinds.Reader number epoch v m l is = let z : _≡_ {A = ℕ} 0 1 = cc in absurd (omega arith)
 truncate-cuts Kinds.Append number epoch v m l is = let z : _≡_ {A = ℕ} 0 1 = cc in absurd (omega arith)

@@ -1,22 +1,21 @@
--- The promise's part (a), and the other answers that are told: of one entry, of a pop, of a put, of lengths and starts. Assumes nothing.
-use mathlib.Core.Path.{_≡_, refl, sym, ap, _∙_, subst}
+-- The promise's part (a). Assumes nothing.
+use mathlib.Core.Path.{_≡_, ap, _∙_}
 use mathlib.Core.Logic.{_≢_}
-use mathlib.Core.Bool.{Bool, true, false}
+use mathlib.Core.Bool.{true}
 use mathlib.Core.Option.{some}
 use mathlib.Core.List.{List, _++_}
-use Prim.Native.Nat.{ℕ, _+_, _*_, _/_, _-_, _≤_, _<_}
+use Prim.Native.Nat.{ℕ, _+_, _*_, _-_, _≤_, _<_}
 use native.Mathlib.Nat.{add-mul}
 use native.Mathlib.Omega.{arith}
 use lib.ListN.{length, take, drop, length-take, length-drop}
 use Rattle.octets.specs.Bytes.{put, put-front}
-use Rattle.answers.specs.Outcome.{Reading}
 use Rattle.rolling_tape.specs.Removal.{Areas, areas}
 use Rattle.lives.specs.Told.{Page, page}
 use Rattle.seen.specs.Reads.{read-served}
-use Rattle.promises.specs.Calls.{readEntries, Result, result, ofReading, step}
+use Rattle.promises.specs.Calls.{readEntries, result, ofReading, step}
 use Rattle.promises.specs.Told.{Known, unknown}
 use Rattle.promises.specs.Standing.{Lore, Running, Formatted, Standing, running, formatted}
-use Rattle.promises.specs.Promise.{Run, ends, known, Reads}
+use Rattle.promises.specs.Promise.{ends, known, Reads}
 use Rattle.promises.specs.Runs.{stands-last}
 
 -- bytes of a page, at the front of a buffer

@@ -1,10 +1,9 @@
 -- What holds after any calls. Assumes nothing.
-use mathlib.Core.Path.{_≡_, refl}
 use mathlib.Core.List.{List, [], _∷_}
 use Prim.Native.Nat.{ℕ}
-use Rattle.rolling_tape.specs.Removal.{Areas, areas}
+use Rattle.rolling_tape.specs.Removal.{Areas}
 use Rattle.promises.specs.Calls.{Call, AllFit, step, exchange, run, history}
-use Rattle.promises.specs.Told.{Known, unknown, told, tell, OldSizes}
+use Rattle.promises.specs.Told.{unknown, told, tell, OldSizes}
 use Rattle.promises.specs.Standing.{Lore, Standing, formatted}
 use Rattle.promises.specs.Sessions.{format-runs}
 use Rattle.promises.specs.Steps.{stands}

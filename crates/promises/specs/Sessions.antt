@@ -9,20 +9,20 @@ use lib.ListN.{length}
 use Rattle.octets.specs.Number.{Bytes}
 use Rattle.answers.specs.Answers.{codeOf, valueOf}
 use Rattle.session.specs.declared.transactions.Transaction.{Transaction}
-use Rattle.rolling_tape.specs.Removal.{Areas, areas}
+use Rattle.rolling_tape.specs.Removal.{areas}
 use Rattle.beginning.specs.Disks.{formatCall}
 use Rattle.beginning.specs.Sessions.{storeCall}
 use Rattle.staging.specs.Seeing.{isTruncate}
 use Rattle.lives.specs.Life as L
 use Rattle.lives.specs.Told as T
 use Rattle.lives.specs.Invariant.{build}
-use Rattle.lives.specs.Reads.{Tied, tied-blank}
+use Rattle.lives.specs.Reads.{tied-blank}
 use Rattle.seen.specs.Seen.{Seen}
 use Rattle.seen.specs.Starts.{CutStarts}
-use Rattle.seen.specs.Restarts.{OrderlyDisk, orderly-disk, transaction-stored, store-orderly, store-handled, store-seen, store-answers}
-use Rattle.seen.specs.Formats.{blank-seen, format-disk-bytes, format-session-bytes, format-blank, format-orderly, format-unbegun}
+use Rattle.seen.specs.Restarts.{orderly-disk, transaction-stored, store-orderly, store-handled, store-seen, store-answers}
+use Rattle.seen.specs.Formats.{blank-seen, format-session-bytes, format-blank, format-orderly, format-unbegun}
 use Rattle.promises.specs.Told.{Known, unknown, tellAs, calls, anew}
-use Rattle.promises.specs.Holds.{Holds, Moves, moved}
+use Rattle.promises.specs.Holds.{Holds, moved}
 use Rattle.promises.specs.Standing.{Lore, Running, Formatted}
 
 blank-last : L.blank .last ≡ 0

@@ -1,10 +1,10 @@
 -- Without a served commit, format or store: the epoch stands, the last commit is what it was, and a window that is new since then began at this epoch and has a
 -- new number. Assumes nothing.
-use mathlib.Core.Path.{_≡_, refl, sym, ap, _∙_}
-use mathlib.Core.Bool.{Bool, true, false, false≢true}
+use mathlib.Core.Path.{_≡_, refl, ap, _∙_}
+use mathlib.Core.Bool.{true, false, false≢true}
 use mathlib.Core.Logic.{_⊎_, inl, inr, ⊎-elim}
-use mathlib.Core.List.{List, [], _∷_, List·Memᴰ, List·Memᴰ·cases-cons}
-use Prim.Native.Nat.{ℕ, _+_, _≤_, _<_}
+use mathlib.Core.List.{List·Memᴰ, List·Memᴰ·cases-cons}
+use Prim.Native.Nat.{ℕ, _≤_, _<_}
 use native.Mathlib.Omega.{arith}
 use Rattle.octets.specs.Cases.{picked}
 use lib.Dec.{eqb}
@@ -12,8 +12,8 @@ use Rattle.lives.specs.Life as L
 use Rattle.lives.specs.Told.{Window, Staging, idle, appending, cutting, Told, toldDrop, quiet}
 use Rattle.lives.specs.Told as T
 use Rattle.lives.specs.StepsDrop.{closed-mem}
-use Rattle.lives.specs.Waits.{Stands, stands}
-use Rattle.promises.specs.Told.{Known, Concern, apart, anew, opens, calls, tellAs, lastAfter}
+use Rattle.lives.specs.Waits.{stands}
+use Rattle.promises.specs.Told.{Known, lastAfter}
 
 pub record Since (k m : Known) : Type 0 where
   pub epoch : m .tape .epoch ≡ k .tape .epoch

@@ -11,6 +11,7 @@ use Rattle.octets.specs.Compare.{sameBytes, same-true}
 use Rattle.layout.specs.Disk.{dataAt}
 use Rattle.layout.specs.Session.{sessionBytes}
 use Rattle.areas.specs.FormatLaws.{format-done}
+use Rattle.octets.specs.Number.{Bytes}
 use Rattle.answers.specs.Answers.{codeOf}
 use Rattle.answers.specs.Outcome.{Outcome}
 use Rattle.rolling_tape.specs.Removal.{Areas, areas}
@@ -18,7 +19,8 @@ use Rattle.beginning.specs.Ways.{format-answered}
 use Rattle.lives.specs.Life as L
 use Rattle.lives.specs.Told.{Told, Staging, idle, appending, cutting, isHere, toldPut, toldShift, toldCut, toldCommit, toldDrop, published, nothing}
 use Rattle.lives.specs.Told as T
-use Rattle.promises.specs.Calls.{Call, format, store, append, reader, truncate, openTape, appendEntries, shiftStart, truncateTape, dropEntries, popEntry, readEntries, readEntry, tapeLen, tapeStart, tapeExists, commit, dropTransaction, step, Exchange, history}
+use Rattle.promises.specs.Calls.{Call, format, store, append, reader, truncate, openTape, appendEntries, shiftStart, truncateTape, dropEntries, popEntry, readEntries, readEntry, tapeLen, tapeStart, tapeExists, commit, dropTransaction, step, Exchange, history, AllFit}
+use Rattle.promises.specs.Promise.{Run}
 use Rattle.promises.specs.Told.{Known, unknown, Concern, apart, anew, opens, calls, ifOurs, isOurs, entriesLeft, concerns, tellAs, told, oldSize, OldSizes}
 
 -- ---- a format
@@ -219,3 +221,20 @@ pub history-sized : (size : List ℕ → ℕ) (cs : List Call) (a : Areas) → A
 unfolding history
 history-sized size [] a all = tt
 history-sized size (c ∷ cs) a all = (all .0, history-sized size cs (step c a .areas) (all .1))
+
+-- ---- a run: areas of bytes that are long enough, and calls that give each name one file size
+
+pub a-run : (disk session : List ℕ) (slots : ℕ) (cs : List Call) (size : List ℕ → ℕ) → Bytes disk → Bytes session → 1 ≤ slots → slots ≤ 64 → dataAt slots ≤ length disk
+    → sessionBytes ≤ length session → AllFit cs → AllSized size cs → Run
+a-run disk session slots cs size disk-bytes session-bytes some few room long fit all =
+    record {
+      disk = disk;
+      session = session;
+      disk-bytes = disk-bytes;
+      session-bytes = session-bytes;
+      slots = slots;
+      formatted = served-format slots disk session some few room long;
+      calls = cs;
+      fit = fit;
+      sizes = one-size size (history cs (step (format slots) (areas disk session) .areas)) (history-sized size cs (step (format slots) (areas disk session) .areas) all);
+    }

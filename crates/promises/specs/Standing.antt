@@ -1,6 +1,6 @@
 -- What holds of the areas, and of what is told of every tape, after any calls: a session runs and all is in order, or the disk is formatted and no session was
 -- begun. Assumes nothing.
-use mathlib.Core.Path.{_≡_, sym, ap, subst}
+use mathlib.Core.Path.{_≡_, sym, subst}
 use mathlib.Core.Bool.{false}
 use mathlib.Core.List.{List}
 use Prim.Native.Nat.{ℕ, _<_}

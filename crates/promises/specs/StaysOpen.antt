@@ -179,7 +179,7 @@ live-call t k v (L.drop′ u) l live known = live-drop t u (k .tape) (k .tape .w
 
 -- a tape with a handle is open
 module _ (a : Areas) (K : Lore) (r : Running a K) (n : List ℕ) (long : 0 < length n) (some-handle : K n .handle ≢ 0) where
-  lives : K n .tape .live ≡ true
+  pub lives : K n .tape .live ≡ true
   lives =
       let h = r .holds n long in
       let at = handle-place (a .disk) (a .session) (r .orderly) n (K n .handle) (K n .entry) (h .handled) some-handle in

@@ -1,4 +1,4 @@
--- What is committed outlives the session: behind a `store` an append begins, the tape opens with its old file size, and every committed byte is read. Assumes
+-- What is committed outlives the session: behind a `store` an append begins, the tape opens with its old file size, and every committed byte from the start on is read. Assumes
 -- nothing.
 use mathlib.Core.Path.{_≡_, refl, sym, ap, _∙_}
 use mathlib.Core.Logic.{_≢_}

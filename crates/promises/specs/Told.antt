@@ -1,7 +1,7 @@
 -- What is told of the tape of a name, from the calls' arguments and answers alone: a served call that concerns it is a call of `lives/specs/Told.antt` on its
 -- one tape. Its committed bytes are a list from offset 0, of which those from `start` on may be read. Not one field is read off the store. Assumes nothing.
 use mathlib.Core.Path.{_≡_}
-use mathlib.Core.Bool.{Bool, true, false, cond, not, _&&_}
+use mathlib.Core.Bool.{Bool, true, cond, not, _&&_}
 use mathlib.Core.List.{List, [], _∷_}
 use Prim.Native.Nat.{ℕ, _*_, _/_, _-_}
 use lib.Dec.{eqb}

@@ -1,33 +1,29 @@
 -- Transactions begun, and readers and truncates dropped, in a running session. Assumes nothing.
-use mathlib.Core.Path.{_≡_, refl, sym, ap, _∙_, subst}
+use mathlib.Core.Path.{_≡_, refl, sym, ap, _∙_}
 use mathlib.Core.Logic.{_≢_, inl}
 use mathlib.Core.Bool.{true, false, true≢false}
 use mathlib.Core.List.{List}
-use Prim.Native.Nat.{ℕ, _+_, _<_}
+use Prim.Native.Nat.{ℕ, _+_}
 use native.Mathlib.Omega.{arith}
-use lib.ListN.{length}
-use Rattle.octets.specs.declared.Found.the-variants.{At}
-use Rattle.answers.specs.declared.Answer.{Answer}
 use Rattle.answers.specs.Answers.{codeOf, valueOf}
 use Rattle.session.specs.declared.tape_rows.Staged.{Staged}
 use Rattle.session.specs.declared.transactions.Kind.{Kind}
 use Rattle.session.specs.declared.transactions.Kind.the-variants as K
 use Rattle.session.specs.declared.transactions.Transaction.{Transaction}
-use Rattle.session.specs.Rows.{headOf, viewOf, transactionOf, stagedOf, findTransaction}
-use Rattle.rolling_tape.specs.Removal.{Areas, areas}
+use Rattle.session.specs.Rows.{headOf, transactionOf}
+use Rattle.rolling_tape.specs.Removal.{areas}
 use Rattle.beginning.specs.Calls.{readerCall, appendCall, truncateCall}
-use Rattle.beginning.specs.Laws.{MayBegin, refusal-some, reader-cases, append-cases, truncate-cases}
+use Rattle.beginning.specs.Laws.{refusal-some, reader-cases, append-cases, truncate-cases}
 use Rattle.staging.specs.Seeing.{isTruncate}
 use Rattle.lives.specs.Life as L
-use Rattle.lives.specs.Told as T
 use Rattle.lives.specs.Invariant.{build}
 use Rattle.seen.specs.Orderly.{Orderly}
 use Rattle.seen.specs.Seen.{Seen, Handled}
 use Rattle.seen.specs.Starts.{CutStarts}
 use Rattle.seen.specs.Begins.{reader-orderly, append-orderly, truncate-orderly, reader-seen, append-seen, truncate-seen, reader-handled, append-handled, truncate-handled}
-use Rattle.seen.specs.Begins.{reader-done, append-done, truncate-done, reader-told, append-told, truncate-told, begins-rows, Begins}
-use Rattle.promises.specs.Told.{Known, tellAs, calls, lastAfter}
-use Rattle.promises.specs.Holds.{Holds, Moves, moved}
+use Rattle.seen.specs.Begins.{reader-done, append-done, truncate-done, reader-told, append-told, truncate-told, begins-rows}
+use Rattle.promises.specs.Told.{tellAs, calls}
+use Rattle.promises.specs.Holds.{moved}
 use Rattle.promises.specs.Standing.{Lore, Running}
 
 -- a call for all tapes, whose own answer is the same number here and there

@@ -5,7 +5,6 @@ use mathlib.Core.Bool.{true, false}
 use mathlib.Core.List.{List, []}
 use Prim.Native.Nat.{ℕ, _+_, _*_, _≤_, _<_, _^_}
 use native.Mathlib.Omega.{arith}
-use Rattle.octets.specs.Number.{Bytes, numAt-lt}
 use Rattle.octets.specs.Only.{OnlyIn, numAt-only}
 use Rattle.octets.specs.Words.{table, table-same}
 use Rattle.octets.specs.declared.Found.{Found}
@@ -42,6 +41,7 @@ use Rattle.ending.specs.CommitMeaning.{Published, published-append, touched-onl
 use Rattle.ending.specs.CutLaws.{only-closeWriter}
 use Rattle.held.specs.Held.{settled}
 use Rattle.seen.specs.Orderly.{Orderly}
+use Rattle.seen.specs.Kinds.{began-fits}
 use Rattle.seen.specs.Lists.{place-names}
 use Rattle.seen.specs.Turns.{touchedPlace, place-touched, Apart, places-apart, folder-kept, touched-kept}
 use Rattle.seen.specs.Flushes.{Inside, flushed-own, flushed-other, flushed-once}
@@ -97,10 +97,6 @@ module _ (low : ℕ) (d e : List ℕ) (only : OnlyIn low 1312 d e) (above : 16 �
       })
 
 -- ---- an append's commit
-
-began-fits : (s : List ℕ) → Bytes s → transactionOf s 16 .epoch < 2 ^ 64
-unfolding transactionOf
-began-fits s bytes = numAt-lt 8 s _ bytes
 
 published-start : (s : List ℕ) (p : ℕ) → isTouched s p ≡ true → published s false p .start ≡ stagedOf s p .start
 unfolding published

@@ -3,24 +3,19 @@ use mathlib.Core.Path.{_≡_, refl, sym, ap, subst, _∙_}
 use mathlib.Core.Logic.{_≢_}
 use mathlib.Core.Bool.{true, false, true≢false}
 use mathlib.Core.List.{List}
-use Prim.Native.Nat.{ℕ, _+_, _≤_, _<_, _^_}
+use Prim.Native.Nat.{ℕ, _+_, _<_, _^_}
 use native.Mathlib.Omega.{arith}
-use borrow.Author.Tests.{eq-eqb, ne-eqb}
-use lib.ListN.{length}
-use Rattle.octets.specs.Cases.{decide, equal, order}
+use Rattle.octets.specs.Cases.{decide}
 use Rattle.octets.specs.Number.{Bytes}
-use Rattle.octets.specs.declared.Found.{Found}
-use Rattle.octets.specs.declared.Found.the-variants.{At, Nothing}
 use Rattle.answers.specs.Answers.{codeOf}
 use Rattle.answers.specs.Outcome.{Outcome}
 use Rattle.metadata.specs.Struct.{storable}
 use Rattle.layout.specs.Disk.{directories}
 use Rattle.layout.specs.Names.{name, findName}
-use Rattle.layout.specs.Session.{namesAt, handleNumber, entrySize}
+use Rattle.layout.specs.Session.{namesAt, handleNumber}
 use Rattle.session.specs.declared.head.Head.{Head}
-use Rattle.session.specs.declared.tape_rows.Handle.{Handle}
 use Rattle.session.specs.declared.views.View.{View}
-use Rattle.session.specs.Rows.{headOf, viewOf, handleOf, ringOf, ringBytes, stagedOf}
+use Rattle.session.specs.Rows.{headOf, viewOf, handleOf, ringOf, ringBytes}
 use Rattle.beginning.specs.Laws.{refusal-some}
 use Rattle.beginning.specs.Transactions.{isOpenAt}
 use Rattle.staging.specs.Seeing.{writes}
@@ -36,11 +31,12 @@ use Rattle.touches.specs.Commits.{CommitLeaves, commit-touches-session, commit-
 use Rattle.touches.specs.Parts.{Stays, Touches, bookkeepings, stays}
 use Rattle.touches.specs.Rows.{row-stays, handle-stays, ring-stays, cache-stays, name-stays}
 use Rattle.joins.specs.FilesAt.{Once}
-use Rattle.seen.specs.Seen.{placeOf, handleIn, entryIn, Handled}
+use Rattle.seen.specs.Seen.{placeOf, Handled}
 use Rattle.seen.specs.Orderly.{Orderly}
 use Rattle.seen.specs.Places.{found-low, find-same}
-use Rattle.seen.specs.Frames.{number-row, open-row}
-use Rattle.seen.specs.Lists.{commit-open, commit-recorded}
+pub use Rattle.seen.specs.Rows.{touched-staged}
+use Rattle.seen.specs.Rows.{number-row, open-row, shut-row, reader-low, handled-rows}
+use Rattle.seen.specs.Lists.{free-unpublished, commit-open, commit-recorded}
 use Rattle.seen.specs.Flushes.{Inside}
 use Rattle.seen.specs.AppendFiles.{settled-once}
 
@@ -57,19 +53,6 @@ commit-appends d s bytes k w =
     commit-cases (λ (o : Outcome). codeOf (o .answer) ≡ 0 → Appends d s o) d s (λ why e. absurd (refusal-some why e)) k
     (λ ok _ v g room e. record { good = g .good; more = epoch-fits s bytes (g .more); room = room; is = refl })
     (λ ok c v g e. absurd (true≢false (sym c ∙ writes-cuts s k w)))
-
--- a handle's row
-entry-row : (s u : List ℕ) (p : ℕ) → handleOf u p ≡ handleOf s p → entrySize u p ≡ entrySize s p
-unfolding handleOf
-entry-row s u p e = ap (λ (h : Handle). h .entry) e
-
--- what is staged is staged of an open tape
-pub touched-staged : (d s : List ℕ) → Orderly d s → (p : ℕ) → p < 8 → isTouched s p ≡ stagedOf s p .touched
-unfolding isTouched
-touched-staged d s o p low =
-    equal (handleNumber s p) 0
-    (λ (e : handleNumber s p ≡ 0). rw (eq-eqb (handleNumber s p) 0 e, o .shut-untouched p low e))
-    (λ (held : handleNumber s p ≢ 0). rw (ne-eqb (handleNumber s p) 0 held))
 
 module _ (d s : List ℕ) (o : Orderly d s) (k : ℕ) (w : writes s k ≡ true) (served : codeOf (commitCall d s k .answer) ≡ 0) where
   abbrev e : List ℕ
@@ -126,8 +109,7 @@ module _ (d s : List ℕ) (o : Orderly d s) (k : ℕ) (w : writes s k ≡ true) 
   same-open t l = open-row s u t (left .readers t l)
 
   pub shut : isOpenAt u 16 ≡ false
-  unfolding isOpenAt
-  shut = rw (left .shut)
+  shut = shut-row u 16 (left .shut)
 
   -- ---- what is published
 
@@ -149,21 +131,7 @@ module _ (d s : List ℕ) (o : Orderly d s) (k : ℕ) (w : writes s k ≡ true) 
       decide (viewOf s 17 p .listed) (still-listed p low)
       (λ made. published-touched p (touched-staged d s o p low ∙ o .made-touched p low held made))
 
-  free-unpublished : (p : ℕ) → p < 8 → length (name s namesAt p) ≡ 0 → published s false p .listed ≡ false
-  free-unpublished p low free =
-      ap (λ (v : View). v .listed)
-      (published-untouched p low (touched-staged d s o p low ∙ o .shut-untouched p low (o .free-shut p low free)))
-      ∙ o .free-unlisted p low free
-
   -- ---- the areas are in order
-
-  -- who is open is a reader
-  reader-place : (t : ℕ) → t < 17 → isOpenAt u t ≡ true → t < 16
-  reader-place t l opened =
-      order t 16 (λ m. m)
-      (λ (m : 16 ≤ t).
-      let last : t ≡ 16 = omega arith in
-      absurd (true≢false (sym opened ∙ ap (isOpenAt u) last ∙ shut)))
 
   was-open : (t : ℕ) → t < 16 → isOpenAt u t ≡ true → isOpenAt s t ≡ true
   was-open t l opened = sym (same-open t l) ∙ opened
@@ -185,14 +153,14 @@ module _ (d s : List ℕ) (o : Orderly d s) (k : ℕ) (w : writes s k ≡ true) 
         handles = λ p q lp lq some same. o .handles p q lp lq (λ z. some (same-number p lp ∙ z)) (sym (same-number p lp) ∙ same ∙ same-number q lq);
         handle-given = λ p lp. rw (same-number p lp, last) (o .handle-given p lp);
         numbers = λ t v lt lv ot ov same.
-            let mt = reader-place t lt ot in
-            let mv = reader-place v lv ov in
+            let mt = reader-low u shut t lt ot in
+            let mv = reader-low u shut v lv ov in
             o .numbers t v lt lv (was-open t mt ot) (was-open v mv ov) (rw (left .readers t mt, left .readers v mv) at same);
         number-given = λ t lt ot.
-            let mt = reader-place t lt ot in
+            let mt = reader-low u shut t lt ot in
             rw (left .readers t mt, newest) (o .number-given t lt (was-open t mt ot));
         free-shut = λ p lp free. same-number p lp ∙ o .free-shut p lp (rw (same-name p lp) at free);
-        free-unlisted = λ p lp free. listed p lp ∙ free-unpublished p lp (rw (same-name p lp) at free);
+        free-unlisted = λ p lp free. listed p lp ∙ free-unpublished d s o running false p lp (rw (same-name p lp) at free);
         shut-untouched = λ p lp _. rw (left .unstaged p lp);
         idle-untouched = λ _ p lp. rw (left .unstaged p lp);
         views = λ t lt ot p lp shown.
@@ -209,16 +177,4 @@ module _ (d s : List ℕ) (o : Orderly d s) (k : ℕ) (w : writes s k ≡ true) 
   -- ---- handles are as before
 
   pub commit-append-handled : (n : List ℕ) (handle entry : ℕ) → Handled s n handle entry → Handled u n handle entry
-  commit-append-handled n handle entry h =
-      record {
-        number = ap (handleIn u) (same-place n) ∙ numbers (placeOf s n) refl ∙ h .number;
-        size = λ some. ap (entryIn u) (same-place n) ∙ entries (placeOf s n) refl ∙ h .size some;
-      }
-    where
-      numbers : (f : Found) → placeOf s n ≡ f → handleIn u f ≡ handleIn s f
-      numbers (At p) at = same-number p (found-low s namesAt n p at)
-      numbers Nothing at = refl
-
-      entries : (f : Found) → placeOf s n ≡ f → entryIn u f ≡ entryIn s f
-      entries (At p) at = entry-row s u p (same-handle p (found-low s namesAt n p at))
-      entries Nothing at = refl
+  commit-append-handled n = handled-rows s u n (same-place n) (λ p at. same-handle p (found-low s namesAt n p at))

@@ -9,7 +9,6 @@ use native.Mathlib.Omega.{arith}
 use borrow.Author.Tests.{eq-eqb, ne-eqb, le-ltb}
 use lib.Dec.{eqb, ltb}
 use Rattle.octets.specs.Cases.{decide, equal}
-use Rattle.octets.specs.First.{count-same}
 use Rattle.octets.specs.Number.{Bytes}
 use Rattle.octets.specs.declared.Found.{Found}
 use Rattle.octets.specs.declared.Found.the-variants.{At, Nothing}
@@ -32,12 +31,14 @@ use Rattle.beginning.specs.Transactions.{isOpenAt, begunAt}
 use Rattle.beginning.specs.Calls.{waits, appendCall, truncateCall, readerCall}
 use Rattle.beginning.specs.Ways.{usable-begun}
 use Rattle.beginning.specs.Laws.{MayBegin, nextHead, begunIn, next-fits, session-begunAt, begun-begunAt, bytes-begunAt, refusal-some, reader-cases, append-cases, truncate-cases}
-use Rattle.staging.specs.Seeing.{seenBy, touchedAs, isAppend}
+use Rattle.staging.specs.Seeing.{seenBy, isAppend}
 use Rattle.lives.specs.Life.{Reader, Writer, Store, step, stepAppend, stepTruncate, then, epochs}
 use Rattle.lives.specs.Life as L
-use Rattle.seen.specs.Seen.{placeOf, shown, viewIn, stagedIn, readerIn, writerAs, writerIn, touchedIn, countOpen, Seen, Handled}
+use Rattle.seen.specs.Seen.{placeOf, shown, viewIn, stagedIn, readerIn, writerAs, writerIn, countOpen, Seen, Handled}
 use Rattle.seen.specs.Orderly.{Orderly}
 use Rattle.seen.specs.Places.{found-low}
+use Rattle.seen.specs.Rows.{open-row, untouched-unwritten, untouched-rows, count-rows, view-in, touched-in, staged-in, touched-as}
+use Rattle.seen.specs.Kinds.{append-open}
 use Rattle.seen.specs.Counts.{Others, open-more, in-cons, seen-waits}
 use Rattle.seen.specs.Leaving.{Leaves, handle-number, leaves-is, head-is, view-is, transaction-is, staged-is, left-handled, seen-then, Ordered, orderly-left}
 
@@ -92,7 +93,7 @@ module _ (d s u : List ℕ) (t : ℕ) (k : Kind) (low : t < 17) (some : isOpen k
   opened = open-kind u t ∙ ap (λ (r : Transaction). isOpen (r .kind)) (b .own) ∙ some
 
   open-other : (x : ℕ) → x < 17 → x ≢ t → isOpenAt u x ≡ isOpenAt s x
-  open-other x l e = open-kind u x ∙ ap (λ (r : Transaction). isOpen (r .kind)) (b .others x l e) ∙ sym (open-kind s x)
+  open-other x l e = open-row s u x (b .others x l e)
 
   -- of a place: the new number, or an old one
   own-number : (x : ℕ) → x ≡ t → transactionOf u x .number ≡ headOf s .«last_transaction» + 1
@@ -115,12 +116,6 @@ module _ (d s u : List ℕ) (t : ℕ) (k : Kind) (low : t < 17) (some : isOpen k
             (λ c. o .numbers x y l m (sym (open-other x l a) ∙ p) (sym (open-other y m c) ∙ q) (sym (old-number x l a) ∙ e ∙ old-number y m c)));
         number-given = λ x l p.
             equal x t (λ (a : x ≡ t). omega (arith, own-number x a, b .last)) (λ a. omega (arith, old-given x l a p, b .last));
-        shut-untouched = λ p l e. rw (b .staged p l) (o .shut-untouched p l (sym (handle-number s u p (b .left .handles p l)) ∙ e));
-        idle-untouched = λ e p l.
-            rw (b .staged p l)
-            (equal 16 t
-            (λ (a : 16 ≡ t). absurd (true≢false (sym opened ∙ ap (isOpenAt u) (sym a) ∙ e)))
-            (λ a. o .idle-untouched (sym (open-other 16 (omega arith) a) ∙ e) p l));
         views = λ x l e p m v.
             rw (b .left .list p m)
             (equal x t
@@ -134,20 +129,22 @@ module _ (d s u : List ℕ) (t : ℕ) (k : Kind) (low : t < 17) (some : isOpen k
             equal 16 t
             (λ (a : 16 ≡ t). ap (λ (y : ℕ). transactionOf u y .epoch) a ∙ ap (λ (r : Transaction). r .epoch) (b .own) ∙ sym (b .left .epoch))
             (λ a. ap (λ (r : Transaction). r .epoch) (b .others 16 (omega arith) a) ∙ o .writer-epoch (sym (open-other 16 (omega arith) a) ∙ e) ∙ sym (b .left .epoch));
-        made-append = λ p l h v.
-            let was : isAppend (transactionOf s 16 .kind) ≡ true = o .made-append p l (rw (handle-number s u p (b .left .handles p l)) at h) (rw (b .left .list p l) at v) in
-            equal 16 t
-            (λ (a : 16 ≡ t). absurd (true≢false (sym (append-open (transactionOf s 16 .kind) was) ∙ sym (open-kind s 16) ∙ ap (isOpenAt s) a ∙ free)))
-            (λ a. ap (λ (r : Transaction). isAppend (r .kind)) (b .others 16 (omega arith) a) ∙ was);
-        made-touched = λ p l h v.
-            rw (b .staged p l) (o .made-touched p l (rw (handle-number s u p (b .left .handles p l)) at h) (rw (b .left .list p l) at v));
+        staying = record {
+          shut-untouched = λ p l e. rw (b .staged p l) (o .shut-untouched p l (sym (handle-number s u p (b .left .handles p l)) ∙ e));
+          idle-untouched = λ e p l.
+              rw (b .staged p l)
+              (equal 16 t
+              (λ (a : 16 ≡ t). absurd (true≢false (sym opened ∙ ap (isOpenAt u) (sym a) ∙ e)))
+              (λ a. o .idle-untouched (sym (open-other 16 (omega arith) a) ∙ e) p l));
+          made-append = λ p l h v.
+              let was : isAppend (transactionOf s 16 .kind) ≡ true = o .made-append p l (rw (handle-number s u p (b .left .handles p l)) at h) (rw (b .left .list p l) at v) in
+              equal 16 t
+              (λ (a : 16 ≡ t). absurd (true≢false (sym (append-open (transactionOf s 16 .kind) was) ∙ sym (open-kind s 16) ∙ ap (isOpenAt s) a ∙ free)))
+              (λ a. ap (λ (r : Transaction). isAppend (r .kind)) (b .others 16 (omega arith) a) ∙ was);
+          made-touched = λ p l h v.
+              rw (b .staged p l) (o .made-touched p l (rw (handle-number s u p (b .left .handles p l)) at h) (rw (b .left .list p l) at v));
+        };
       }
-    where
-      append-open : (x : Kind) → isAppend x ≡ true → isOpen x ≡ true
-      append-open K.Closed e = e
-      append-open K.Reader e = refl
-      append-open K.Append e = refl
-      append-open K.Truncate e = refl
 
 -- ---- what is seen of it
 
@@ -156,16 +153,8 @@ module _ (s u : List ℕ) (t : ℕ) (k : Kind) (b : Begins s u t k) (n : List �
   own-view (At p) e = ap shown (b .view p (found-low s namesAt n p e))
   own-view Nothing e = refl
 
-  old-view : (w : ℕ) → w < 18 → w ≢ t → (found : Found) → placeOf s n ≡ found → viewIn u w found ≡ viewIn s w found
-  old-view w l d (At p) e = ap shown (b .views w p l d (found-low s namesAt n p e))
-  old-view w l d Nothing e = refl
-
-  old-touched : (found : Found) → placeOf s n ≡ found → touchedIn u found ≡ touchedIn s found
-  old-touched (At p) e = ap (λ (r : Staged). r .touched) (b .staged p (found-low s namesAt n p e))
-  old-touched Nothing e = refl
-
   old-reader : (x : ℕ) → x < 16 → x ≢ t → readerIn u (placeOf s n) x ≡ readerIn s (placeOf s n) x
-  old-reader x l d = rw (b .others x (omega arith) d, old-view x (omega arith) d (placeOf s n) refl)
+  old-reader x l d = rw (b .others x (omega arith) d, view-in s u (placeOf s n) x (λ p at. b .views x p (omega arith) d (found-low s namesAt n p at)))
 
 -- a reader: the writer is as before
 module _ (d s u : List ℕ) (t : ℕ) (low : t < 16) (free : isOpenAt s t ≡ false) (b : Begins s u t K.Reader) (o : Orderly d s) (n : List ℕ) (st : Store) (seen : Seen d s n st) where
@@ -179,18 +168,6 @@ module _ (d s u : List ℕ) (t : ℕ) (low : t < 16) (free : isOpenAt s t ≡ fa
         readers = old-reader s u t K.Reader b n;
       }
 
-  same-seen : (p : ℕ) → p < 8 → seenBy u 16 p ≡ seenBy s 16 p
-  unfolding seenBy
-  same-seen p l = rw (b .staged p l, b .views 16 p (omega arith) (λ q. omega arith) l)
-
-  as-staged : (found : Found) → placeOf s n ≡ found → stagedIn u found ≡ stagedIn s found
-  as-staged (At p) e = ap shown (same-seen p (found-low s namesAt n p e))
-  as-staged Nothing e = refl
-
-  as-touched : (p : ℕ) → p < 8 → touchedAs u p ≡ touchedAs s p
-  unfolding touchedAs
-  as-touched p l = rw (b .staged p l, b .views 16 p (omega arith) (λ q. omega arith) l)
-
   reader-goes : Seen d u n (step L.reader st .store)
   unfolding step
   reader-goes =
@@ -201,12 +178,12 @@ module _ (d s u : List ℕ) (t : ℕ) (low : t < 16) (free : isOpenAt s t ≡ fa
       open-more has s u (placeOf s n) t low others r free (opened d s u t K.Reader (omega arith) refl free b o) new-reader
       ∙ ap (λ (x : ℕ). cond (has r) (suc x) x) (seen .readers has)
       ∙ sym (in-cons has r (st .readers)))
-      (rw (b .others 16 (omega arith) (λ q. omega arith), as-staged (placeOf s n) refl) (seen .writer))
-      (old-touched s u t K.Reader b n (placeOf s n) refl ∙ seen .touched)
+      (rw (b .others 16 (omega arith) (λ q. omega arith), staged-in s u (placeOf s n) (λ p at. b .staged p (found-low s namesAt n p at)) (λ p at. b .views 16 p (omega arith) (λ q. omega arith) (found-low s namesAt n p at))) (seen .writer))
+      (touched-in s u (placeOf s n) (λ p at. b .staged p (found-low s namesAt n p at)) ∙ seen .touched)
       (λ p l there live.
       let was = seen .opened p there live in
       record {
-        unwritten = ap (λ (x : Staged). x .unwritten) (as-touched p l) ∙ was .unwritten;
+        unwritten = ap (λ (x : Staged). x .unwritten) (touched-as s u p (b .staged p l) (b .views 16 p (omega arith) (λ q. omega arith) l)) ∙ was .unwritten;
         base = rw (b .staged p l) (was .base);
       })
 
@@ -223,22 +200,13 @@ module _ (d s u : List ℕ) (k : Kind) (free : isOpenAt s 16 ≡ false) (some : 
   as-listed (At p) e = ap shown (sees-list p (found-low s namesAt n p e))
   as-listed Nothing e = refl
 
-  none-touched : (found : Found) → placeOf s n ≡ found → touchedIn u found ≡ false
-  none-touched (At p) e = bare p (found-low s namesAt n p e)
-  none-touched Nothing e = refl
-
-  none-unwritten : (x : List ℕ) (p : ℕ) → stagedOf x p .touched ≡ false → touchedAs x p .unwritten ≡ 0
-  unfolding touchedAs
-  none-unwritten x p e = rw e
-
   new-writer : writerIn u (placeOf s n) ≡ writerAs k (st .last + 1) (st .epoch) (record { listed = st .listed; len = st .len; start = st .start })
   new-writer = rw (b .own, as-listed (placeOf s n) refl, seen .list, seen .last, seen .epoch)
 
   same-readers : (has : Reader → Bool) → countOpen has u (placeOf s n) ≡ countOpen has s (placeOf s n)
-  unfolding countOpen
-  same-readers has =
-      count-same (λ x. isOpenAt u x && has (readerIn u (placeOf s n) x)) (λ x. isOpenAt s x && has (readerIn s (placeOf s n) x)) 16 0
-      (λ x a c. rw (open-other d s u 16 k (omega arith) some free b o x (omega arith) (λ q. omega arith), old-reader s u 16 k b n x (omega arith) (λ q. omega arith)))
+  same-readers =
+      count-rows s u (placeOf s n) (placeOf s n) (λ x l. b .others x (omega arith) (λ q. omega arith))
+      (λ x l. view-in s u (placeOf s n) x (λ p at. b .views x p (omega arith) (λ q. omega arith) (found-low s namesAt n p at)))
 
   writer-goes : (w : Writer) → writerAs k (st .last + 1) (st .epoch) (record { listed = st .listed; len = st .len; start = st .start }) ≡ w
       → Seen d u n (then (L.Done (st .last + 1)) (st .last + 1) st (st .readers) w false (st .live) (st .held) .store)
@@ -247,10 +215,10 @@ module _ (d s u : List ℕ) (k : Kind) (free : isOpenAt s 16 ≡ false) (some : 
       (b .last ∙ ap (λ (x : ℕ). x + 1) (seen .last))
       (λ has. same-readers has ∙ seen .readers has)
       (new-writer ∙ e)
-      (none-touched (placeOf s n) refl)
+      (untouched-rows u (placeOf s n) (λ p at. bare p (found-low s namesAt n p at)))
       (λ p l there live.
       record {
-        unwritten = none-unwritten u p (bare p l) ∙ sym (none-unwritten s p (o .idle-untouched free p l)) ∙ seen .opened p there live .unwritten;
+        unwritten = untouched-unwritten u p (bare p l) ∙ sym (untouched-unwritten s p (o .idle-untouched free p l)) ∙ seen .opened p there live .unwritten;
         base = λ t li. absurd (true≢false (sym t ∙ bare p l));
       })
 

@@ -8,11 +8,9 @@ use Prim.Native.Nat.{ℕ, _<_}
 use native.Mathlib.Omega.{arith}
 use borrow.Author.Tests.{eq-eqb, ne-eqb, eqb-true}
 use lib.Dec.{eqb}
-use lib.ListN.{length}
 use Rattle.octets.specs.Cases.{decide, and-l, and-r, and-both}
-use Rattle.octets.specs.First.{first, first-same, first-at, first-hits, count-same}
-use Rattle.octets.specs.declared.Found.{Found}
-use Rattle.octets.specs.declared.Found.the-variants.{At, Nothing}
+use Rattle.octets.specs.First.{first, first-same, first-at, first-hits}
+use Rattle.octets.specs.declared.Found.the-variants.{At}
 use Rattle.answers.specs.declared.Answer.the-variants.{Done}
 use Rattle.layout.specs.Disk as D
 use Rattle.layout.specs.DiskLaws as DL
@@ -29,20 +27,21 @@ use Rattle.session.specs.MeaningLaws.{head-at, view-at, transaction-at, staged-
 use Rattle.session.specs.MeaningLaws as ML
 use Rattle.session.specs.Rows.{headOf, viewOf, transactionOf, stagedOf, findTransaction}
 use Rattle.beginning.specs.Transactions.{After, usable, isOpenAt}
-use Rattle.staging.specs.Seeing.{seenBy, touchedAs, isAppend}
+use Rattle.staging.specs.Seeing.{isAppend}
 use Rattle.ending.specs.Dropping.{dropAt, dropTransactionCall}
 use Rattle.ending.specs.DropLaws.{drop-served, begun-dropTransaction, bytes-dropTransaction}
 use Rattle.ending.specs.DropMeaning.{writerClosed, drop-truncate-means, drop-reader-means}
 use Rattle.lives.specs.Life.{Reader, Store, step, stepDrop, stepDropReader, then, isSome, find, without}
 use Rattle.lives.specs.Life as L
-use Rattle.lives.specs.Told.{Told, Staging}
-use Rattle.lives.specs.Told as T
-use Rattle.lives.specs.Invariant.{Phys, Good, GoodIf, Live, build, eraseW, top}
-use Rattle.lives.specs.Invariant as I
-use Rattle.seen.specs.Seen.{placeOf, shown, viewIn, stagedIn, readerIn, writerAs, touchedIn, countOpen, Seen, Handled}
+use Rattle.lives.specs.Told.{Told}
+use Rattle.lives.specs.Invariant.{Phys, Good, build}
+use Rattle.seen.specs.Seen.{placeOf, stagedIn, writerAs, countOpen, Seen, Handled}
 use Rattle.seen.specs.Orderly.{Orderly}
 use Rattle.seen.specs.Places.{found-low}
+use Rattle.seen.specs.Rows.{open-row, shut-row, count-rows, untouched-unwritten, untouched-rows, view-in, touched-in, staged-in, touched-as}
+use Rattle.seen.specs.GoodTapes.{all-written}
 use Rattle.seen.specs.Counts.{Others, open-less, open-place, in-without, find-some}
+pub use Rattle.seen.specs.Leaving.{Staying}
 use Rattle.seen.specs.Leaving.{Leaves, changed, handle-number, leaves-is, head-is, view-is, transaction-is, staged-is, left-handled, seen-then, Ordered, orderly-left}
 use Rattle.seen.specs.Begins.{open-kind}
 
@@ -122,10 +121,10 @@ closes-rows s u t rows low means =
 
 module _ (s u : List ℕ) (t : ℕ) (c : Closes s u t) where
   shut : isOpenAt u t ≡ false
-  shut = open-kind u t ∙ ap (λ (r : Transaction). isOpen (r .kind)) (c .own)
+  shut = shut-row u t (c .own)
 
   open-other : (x : ℕ) → x < 17 → x ≢ t → isOpenAt u x ≡ isOpenAt s x
-  open-other x l e = open-kind u x ∙ ap (λ (r : Transaction). isOpen (r .kind)) (c .others x l e) ∙ sym (open-kind s x)
+  open-other x l e = open-row s u x (c .others x l e)
 
   -- what is open is another
   other : (x : ℕ) → isOpenAt u x ≡ true → x ≢ t
@@ -137,13 +136,6 @@ module _ (s u : List ℕ) (t : ℕ) (c : Closes s u t) where
   number-was : (x : ℕ) → x < 17 → isOpenAt u x ≡ true → transactionOf u x .number ≡ transactionOf s x .number
   number-was x l e = ap (λ (r : Transaction). r .number) (c .others x l (other x e))
 
--- what is staged is as before, or nothing
-pub record Staying (u : List ℕ) : Type 0 where
-  pub shut-untouched : (p : ℕ) → p < 8 → handleNumber u p ≡ 0 → stagedOf u p .touched ≡ false
-  pub idle-untouched : isOpenAt u 16 ≡ false → (p : ℕ) → p < 8 → stagedOf u p .touched ≡ false
-  pub made-append : (p : ℕ) → p < 8 → handleNumber u p ≢ 0 → viewOf u 17 p .listed ≡ false → isAppend (transactionOf u 16 .kind) ≡ true
-  pub made-touched : (p : ℕ) → p < 8 → handleNumber u p ≢ 0 → viewOf u 17 p .listed ≡ false → stagedOf u p .touched ≡ true
-
 module _ (d s u : List ℕ) (t : ℕ) (c : Closes s u t) (o : Orderly d s) where
   closes-ordered : Staying u → Ordered u
   closes-ordered stay =
@@ -151,14 +143,11 @@ module _ (d s u : List ℕ) (t : ℕ) (c : Closes s u t) (o : Orderly d s) where
         numbers = λ x y l m p q e.
             o .numbers x y l m (was s u t c x l p) (was s u t c y m q) (sym (number-was s u t c x l p) ∙ e ∙ number-was s u t c y m q);
         number-given = λ x l p. rw (number-was s u t c x l p, c .last) (o .number-given x l (was s u t c x l p));
-        shut-untouched = stay .shut-untouched;
-        idle-untouched = stay .idle-untouched;
         views = λ x l e p m. rw (c .views x p (omega arith) m, c .views 17 p (omega arith) m) (o .views x l (was s u t c x (omega arith) e) p m);
         writer-view = λ e p l. rw (c .views 16 p (omega arith) l, c .views 17 p (omega arith) l) (o .writer-view (was s u t c 16 (omega arith) e) p l);
         writer-epoch = λ e.
             ap (λ (r : Transaction). r .epoch) (c .others 16 (omega arith) (other s u t c 16 e)) ∙ o .writer-epoch (was s u t c 16 (omega arith) e) ∙ sym (c .left .epoch);
-        made-append = stay .made-append;
-        made-touched = stay .made-touched;
+        staying = stay;
       }
 
 -- ---- a reader
@@ -229,31 +218,11 @@ module _ (d s : List ℕ) (o : Orderly d s) (k t : ℕ) (found : findTransaction
         ∙ past-writer (transactionOf s 16 .kind) _ _ _ (λ p e. let same = alone 16 (omega arith) (open-kind s 16 ∙ p) e in omega arith)
         ∙ rw reader-listed
 
-    same-view : (w : ℕ) → w < 18 → (tape : Found) → placeOf s n ≡ tape → viewIn dropped w tape ≡ viewIn s w tape
-    same-view w l (At p) e = ap shown (reader-closes .views w p l (found-low s namesAt n p e))
-    same-view w l Nothing e = refl
-
-    same-touched : (tape : Found) → placeOf s n ≡ tape → touchedIn dropped tape ≡ touchedIn s tape
-    same-touched (At p) e = ap (λ (r : Staged). r .touched) (reader-staged p (found-low s namesAt n p e))
-    same-touched Nothing e = refl
-
-    same-seen : (p : ℕ) → p < 8 → seenBy dropped 16 p ≡ seenBy s 16 p
-    unfolding seenBy
-    same-seen p l = rw (reader-staged p l, reader-closes .views 16 p (omega arith) l)
-
-    same-staged : (tape : Found) → placeOf s n ≡ tape → stagedIn dropped tape ≡ stagedIn s tape
-    same-staged (At p) e = ap shown (same-seen p (found-low s namesAt n p e))
-    same-staged Nothing e = refl
-
-    as-touched : (p : ℕ) → p < 8 → touchedAs dropped p ≡ touchedAs s p
-    unfolding touchedAs
-    as-touched p l = rw (reader-staged p l, reader-closes .views 16 p (omega arith) l)
-
     other-readers : Others s dropped (placeOf s n) t
     other-readers =
         record {
           opens = λ x l e. open-other s dropped t reader-closes x (omega arith) e;
-          readers = λ x l e. rw (reader-closes .others x (omega arith) e, same-view x (omega arith) (placeOf s n) refl);
+          readers = λ x l e. rw (reader-closes .others x (omega arith) e, view-in s dropped (placeOf s n) x (λ p at. reader-closes .views x p (omega arith) (found-low s namesAt n p at)));
         }
 
     pub drop-reader-told : step (L.drop′ k) st .answer ≡ L.Done 0
@@ -268,31 +237,16 @@ module _ (d s : List ℕ) (o : Orderly d s) (k t : ℕ) (found : findTransaction
         open-less has s dropped (placeOf s n) t low other-readers k (found-transaction s k t found .number) (shut s dropped t reader-closes) (λ x l. alone x (omega arith))
         ∙ seen .readers (λ r. has r && not (eqb k (r .number)))
         ∙ sym (in-without has k (st .readers)))
-        (rw (reader-writer, same-staged (placeOf s n) refl) (seen .writer))
-        (same-touched (placeOf s n) refl ∙ seen .touched)
+        (rw (reader-writer, staged-in s dropped (placeOf s n) (λ p at. reader-staged p (found-low s namesAt n p at)) (λ p at. reader-closes .views 16 p (omega arith) (found-low s namesAt n p at))) (seen .writer))
+        (touched-in s dropped (placeOf s n) (λ p at. reader-staged p (found-low s namesAt n p at)) ∙ seen .touched)
         (λ p l there live.
         let before = seen .opened p there live in
         record {
-          unwritten = ap (λ (r : Staged). r .unwritten) (as-touched p l) ∙ before .unwritten;
+          unwritten = ap (λ (r : Staged). r .unwritten) (touched-as s dropped p (reader-staged p l) (reader-closes .views 16 p (omega arith) l)) ∙ before .unwritten;
           base = rw (reader-staged p l) (before .base);
         }))
 
 -- ---- a truncate
-
--- without an append no byte is unwritten
-cutting-tops : (epoch number len : ℕ) (c : List ℕ) (w : Staging) → eraseW epoch w ≡ L.cutting number len → (I.isAppend w ≡ false) × (top c w ≡ c)
-cutting-tops epoch number len c T.idle e = (refl, refl)
-cutting-tops epoch number len c (T.appending m h x y) e = let z : _≡_ {A = ℕ} 0 1 = cc in absurd (omega arith)
-cutting-tops epoch number len c (T.cutting m x) e = (refl, refl)
-
-all-written : (t : Told) (p : Phys) → Good t p → (number len : ℕ) → build t p .writer ≡ L.cutting number len → t .live ≡ true → p .held .unwritten ≡ 0
-all-written t p good number len e live =
-    let alive : Live t p = subst (λ (b : Bool). GoodIf b t p) live good in
-    let tops = cutting-tops (t .epoch) number len (t .content) (t .writer) e in
-    let new = alive .sound .new in
-    let even = alive .even (tops .0) in
-    let end : length (top (t .content) (t .writer)) ≡ length (t .content) = ap length (tops .1) in
-    omega arith
 
 module _ (d s : List ℕ) (o : Orderly d s) (k : ℕ) (found : findTransaction s k ≡ At 16) (kind : transactionOf s 16 .kind ≡ K.Truncate) where
   abbrev left-by : List ℕ
@@ -346,28 +300,10 @@ module _ (d s : List ℕ) (o : Orderly d s) (k : ℕ) (found : findTransaction s
     unfolding step
     truncate-step = ap (stepDrop st k) seen-cutting ∙ rw (eq-eqb k k refl)
 
-    kept-view : (w : ℕ) → w < 18 → (tape : Found) → placeOf s n ≡ tape → viewIn left-by w tape ≡ viewIn s w tape
-    kept-view w l (At p) e = ap shown (truncate-closes .views w p l (found-low s namesAt n p e))
-    kept-view w l Nothing e = refl
-
-    untouched-in : (tape : Found) → placeOf s n ≡ tape → touchedIn left-by tape ≡ false
-    untouched-in (At p) e = none-touched p (found-low s namesAt n p e)
-    untouched-in Nothing e = refl
-
-    none-unwritten : (p : ℕ) → p < 8 → touchedAs left-by p .unwritten ≡ 0
-    unfolding touchedAs
-    none-unwritten p l = rw (none-touched p l)
-
     kept-readers : (has : Reader → Bool) → countOpen has left-by (placeOf s n) ≡ countOpen has s (placeOf s n)
-    unfolding countOpen
-    kept-readers has =
-        count-same (λ x. isOpenAt left-by x && has (readerIn left-by (placeOf s n) x)) (λ x. isOpenAt s x && has (readerIn s (placeOf s n) x)) 16 0
-        (λ x a b.
-        rw (
-          open-other s left-by 16 truncate-closes x (omega arith) (λ q. omega arith),
-          truncate-closes .others x (omega arith) (λ q. omega arith),
-          kept-view x (omega arith) (placeOf s n) refl,
-        ))
+    kept-readers =
+        count-rows s left-by (placeOf s n) (placeOf s n) (λ x l. truncate-closes .others x (omega arith) (λ q. omega arith))
+        (λ x l. view-in s left-by (placeOf s n) x (λ p at. truncate-closes .views x p (omega arith) (found-low s namesAt n p at)))
 
     pub drop-truncate-told : step (L.drop′ k) st .answer ≡ L.Done 0
     drop-truncate-told = ap (λ (x : L.After). x .answer) truncate-step
@@ -379,10 +315,10 @@ module _ (d s : List ℕ) (o : Orderly d s) (k : ℕ) (found : findTransaction s
         (truncate-closes .last ∙ seen .last)
         (λ has. kept-readers has ∙ seen .readers has)
         (rw (truncate-closes .own))
-        (untouched-in (placeOf s n) refl)
+        (untouched-rows left-by (placeOf s n) (λ p at. none-touched p (found-low s namesAt n p at)))
         (λ p l there live.
         record {
-          unwritten = none-unwritten p l ∙ sym (written live);
+          unwritten = untouched-unwritten left-by p (none-touched p l) ∙ sym (written live);
           base = λ t li. absurd (true≢false (sym t ∙ none-touched p l));
         }))
 

@@ -1,15 +1,14 @@
 -- An append's commit that is served does to what is seen of every name what `lives` says of a commit: of a tape that it touched the staged view is
 -- published and its files are settled, of every other one the view is published as it was. Assumes nothing.
 use mathlib.Core.Path.{_≡_, refl, sym, ap, subst, _∙_}
-use mathlib.Core.Bool.{Bool, true, false, true≢false, false≢true, cond, not, _&&_}
+use mathlib.Core.Bool.{Bool, true, false, true≢false, false≢true, cond}
 use mathlib.Core.List.{List}
 use Prim.Native.Nat.{ℕ, _+_, _≤_, _<_}
 use native.Mathlib.Omega.{arith}
-use borrow.Author.Tests.{eq-eqb, eqb-true}
+use borrow.Author.Tests.{eq-eqb}
 use lib.Dec.{eqb}
 use lib.ListN.{length}
-use Rattle.octets.specs.Cases.{decide, and-l, and-r}
-use Rattle.octets.specs.First.{count-same}
+use Rattle.octets.specs.Cases.{decide}
 use Rattle.octets.specs.declared.Found.{Found}
 use Rattle.octets.specs.declared.Found.the-variants.{At, Nothing}
 use Rattle.answers.specs.Answers.{codeOf}
@@ -19,53 +18,36 @@ use Rattle.layout.specs.Disk.{directories}
 use Rattle.layout.specs.Names.{name, findName}
 use Rattle.layout.specs.Session.{namesAt, fileSize}
 use Rattle.session.specs.declared.head.Head.{Head}
-use Rattle.session.specs.declared.tape_rows.Handle.{Handle}
 use Rattle.session.specs.declared.tape_rows.Staged.{Staged}
-use Rattle.session.specs.declared.transactions.Kind.{Kind}
-use Rattle.session.specs.declared.transactions.Kind.the-variants as K
 use Rattle.session.specs.declared.views.View.{View}
 use Rattle.session.specs.Rows.{transactionOf, stagedOf}
 use Rattle.rolling_tape.specs.Removal.{areas}
 use Rattle.rolling_tape.specs.Room.{isFound}
-use Rattle.cached_tape.specs.FlushLaws.{fileSize-handle}
-use Rattle.beginning.specs.Transactions.{isOpenAt}
-use Rattle.staging.specs.Seeing.{isAppend, writes, seenBy, touchedAs, directoryOf}
+use Rattle.staging.specs.Seeing.{writes, seenBy, directoryOf}
 use Rattle.ending.specs.Committing.{commitCall}
 use Rattle.ending.specs.Listing.{isTouched, published}
 use Rattle.ending.specs.Oldest.{oldestOf}
 use Rattle.ending.specs.StepLaws.{touched-held}
 use Rattle.held.specs.Held.{Held, settled}
-use Rattle.lives.specs.Life.{Reader, Writer, Store, After, Done, commit, epochs, committed, stepCommit, step}
+use Rattle.lives.specs.Life.{Writer, Store, After, Done, commit, epochs, committed, stepCommit, step}
 use Rattle.lives.specs.Told.{Staging, Told}
 use Rattle.lives.specs.Invariant.{Phys, eraseW, build, top, Live, GoodIf, Good}
 use Rattle.joins.specs.FilesAt.{filesAt, heldAt}
-use Rattle.seen.specs.Seen.{placeOf, shown, viewIn, stagedIn, readerIn, writerIn, touchedIn, liveIn, filesIn, filesFor, countOpen, SeenOpen, Seen}
+use Rattle.seen.specs.Seen.{placeOf, shown, viewIn, stagedIn, writerIn, touchedIn, filesIn, filesFor, SeenOpen, Seen}
 use Rattle.seen.specs.Orderly.{Orderly}
 use Rattle.seen.specs.Places.{found-low, found-name, found-at}
+pub use Rattle.seen.specs.Kinds.{writes-kind, writes-as as writes-number}
+use Rattle.seen.specs.Rows.{size-row, untouched-unwritten, untouched-rows, view-rows, live-rows, count-rows}
 use Rattle.seen.specs.Counts.{seen-oldest}
 use Rattle.seen.specs.Handles.{live-at}
 use Rattle.seen.specs.Turns.{touchedPlace, place-touched, place-directory, touched-place, touched-row, touched-named, no-place}
 use Rattle.seen.specs.Flushes.{Inside}
 use Rattle.seen.specs.AppendFiles.{settled-own, settled-other}
-use Rattle.seen.specs.AppendOrder.{commit-appends, touched-staged, left, same-handle, same-number, same-ring, same-cache, same-place, same-directory, same-open}
+use Rattle.seen.specs.AppendOrder.{commit-appends, touched-staged, left, same-handle, same-ring, same-cache, same-place, same-directory}
 
 -- ---- the model's step
 
-append-kind : (kind : Kind) → isAppend kind ≡ true → kind ≡ K.Append
-append-kind K.Closed e = absurd (false≢true e)
-append-kind K.Reader e = absurd (false≢true e)
-append-kind K.Append e = refl
-append-kind K.Truncate e = absurd (false≢true e)
-
 module _ (s : List ℕ) (k : ℕ) (w : writes s k ≡ true) where
-  pub writes-kind : transactionOf s 16 .kind ≡ K.Append
-  unfolding writes
-  writes-kind = append-kind (transactionOf s 16 .kind) (and-l (isAppend (transactionOf s 16 .kind)) (eqb (transactionOf s 16 .number) k) w)
-
-  pub writes-number : transactionOf s 16 .number ≡ k
-  unfolding writes
-  writes-number = eqb-true (transactionOf s 16 .number) k (and-r (isAppend (transactionOf s 16 .kind)) (eqb (transactionOf s 16 .number) k) w)
-
   -- what the tape holds then
   abbrev heldThen : View → Store → Held
   heldThen v st =
@@ -77,8 +59,8 @@ module _ (s : List ℕ) (k : ℕ) (w : writes s k ≡ true) where
   step-is : (tape : Found) (st : Store) → writerIn s tape ≡ st .writer → step (commit k) st ≡ storeThen (stagedIn s tape) st
   unfolding step
   step-is tape st writer =
-      let number : eqb k (transactionOf s 16 .number) ≡ true = eq-eqb k (transactionOf s 16 .number) (sym writes-number) in
-      ap (stepCommit st k) (sym writer) ∙ rw (writes-kind, number)
+      let number : eqb k (transactionOf s 16 .number) ≡ true = eq-eqb k (transactionOf s 16 .number) (sym (writes-number s k w)) in
+      ap (stepCommit st k) (sym writer) ∙ rw (writes-kind s k w, number)
 
 -- ---- what `settled` leaves
 
@@ -97,11 +79,7 @@ module _ (b : Bool) (fs began oldest len start : ℕ) (h : Held) where
 
 -- ---- what is seen
 
-untouched-unwritten : (s : List ℕ) (p : ℕ) → stagedOf s p .touched ≡ false → touchedAs s p .unwritten ≡ 0
-unfolding touchedAs
-untouched-unwritten s p t = rw t
-
-touched-view : (s : List ℕ) (p : ℕ) → isTouched s p ≡ true → stagedIn s (At p) ≡ record { listed = true; len = stagedOf s p .len; start = stagedOf s p .start }
+pub touched-view : (s : List ℕ) (p : ℕ) → isTouched s p ≡ true → stagedIn s (At p) ≡ record { listed = true; len = stagedOf s p .len; start = stagedOf s p .start }
 unfolding seenBy
 touched-view s p t = rw (touched-row s p t .0)
 
@@ -122,24 +100,6 @@ module _ (d s : List ℕ) (o : Orderly d s) (k : ℕ) (w : writes s k ≡ true) 
     list-after : (tape : Found) → placeOf s n ≡ tape → viewIn u 17 tape ≡ stagedIn s tape
     list-after (At p) at = let low = found-low s namesAt n p at in ap shown (left d s o k w served .list p low ∙ published-seen p low)
     list-after Nothing at = refl
-
-    view-after : (tape : Found) → placeOf s n ≡ tape → (t : ℕ) → t < 16 → viewIn u t tape ≡ viewIn s t tape
-    view-after (At p) at t l = ap shown (left d s o k w served .views t p (omega arith) (found-low s namesAt n p at))
-    view-after Nothing at t l = refl
-
-    touched-after : (tape : Found) → placeOf s n ≡ tape → touchedIn u tape ≡ false
-    touched-after (At p) at = ap (λ (r : Staged). r .touched) (left d s o k w served .unstaged p (found-low s namesAt n p at))
-    touched-after Nothing at = refl
-
-    live-after : (tape : Found) → placeOf s n ≡ tape → liveIn u tape ≡ liveIn s tape
-    live-after (At p) at = ap (λ (h : ℕ). not (eqb h 0)) (same-number d s o k w served p (found-low s namesAt n p at))
-    live-after Nothing at = refl
-
-    count-after : (tape : Found) → placeOf s n ≡ tape → (has : Reader → Bool) → countOpen has u tape ≡ countOpen has s tape
-    unfolding countOpen
-    count-after tape at has =
-        count-same (λ t. isOpenAt u t && has (readerIn u tape t)) (λ t. isOpenAt s t && has (readerIn s tape t)) 16 0
-        (λ t a b. rw (same-open d s o k w served t (omega arith), left d s o k w served .readers t (omega arith), view-after tape at t (omega arith)))
 
   writer-after : (tape : Found) → writerIn u tape ≡ Writer.idle
   writer-after tape = rw (left d s o k w served .shut)
@@ -239,8 +199,7 @@ module _ (d s : List ℕ) (o : Orderly d s) (k : ℕ) (w : writes s k ≡ true) 
         record {
           ring = same-ring d s o k w served p low ∙ old .ring ∙ sym (settled-ring (st .touched) size began oldest (v .len) (v .start) was-held);
           cache = same-cache d s o k w served p low ∙ old .cache ∙ sym (settled-cache (st .touched) size began oldest (v .len) (v .start) was-held);
-          size =
-              sym (fileSize-handle u p) ∙ ap (λ (h : Handle). h .«file_size») (same-handle d s o k w served p low) ∙ fileSize-handle s p ∙ old .size;
+          size = size-row s u p (same-handle d s o k w served p low) ∙ old .size;
           unwritten =
               untouched-unwritten u p blank
               ∙ sym
@@ -259,16 +218,20 @@ module _ (d s : List ℕ) (o : Orderly d s) (k : ℕ) (w : writes s k ≡ true) 
         let tape = placeOf s n in
         let place = same-place d s o k w served n in
         let head = left d s o k w served .head in
+        let view-after : (t : ℕ) → t < 16 → viewIn u t (placeOf u n) ≡ viewIn s t tape
+        = λ t l. view-rows s u n place t (λ p at. left d s o k w served .views t p (omega arith) (found-low s namesAt n p at)) in
         subst (λ (a : After). Seen e u n (a .store)) (sym (step-is s k w tape st (seen .writer)))
         (record {
           epoch = ap (λ (h : Head). h .epoch) head ∙ ap (λ (x : ℕ). x + 1) (seen .epoch);
           cut = ap (λ (h : Head). h .cut) head;
           last = ap (λ (h : Head). h .«last_transaction») head ∙ seen .last;
           list = ap (viewIn u 17) place ∙ list-after n tape refl;
-          readers = λ has. ap (countOpen has u) place ∙ count-after n tape refl has ∙ seen .readers has;
+          readers = λ has. count-rows s u tape (placeOf u n) (left d s o k w served .readers) view-after has ∙ seen .readers has;
           writer = writer-after (placeOf u n);
-          touched = ap (touchedIn u) place ∙ touched-after n tape refl;
-          live = ap (liveIn u) place ∙ live-after n tape refl ∙ seen .live;
+          touched =
+              untouched-rows u (placeOf u n)
+              (λ p at. ap (λ (r : Staged). r .touched) (left d s o k w served .unstaged p (found-low u namesAt n p at)));
+          live = live-rows s u n place (λ p at. same-handle d s o k w served p (found-low s namesAt n p at)) ∙ seen .live;
           files = files-after;
           opened = opened-after;
         })

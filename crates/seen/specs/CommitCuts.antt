@@ -1,42 +1,38 @@
 -- The commit of a truncate, as what is seen of each tape: it makes the model's step `commit`, and its handle stays. Assumes nothing.
-use mathlib.Core.Path.{_≡_, refl, sym, ap, subst, _∙_}
+use mathlib.Core.Path.{_≡_, refl, sym, ap, _∙_}
 use mathlib.Core.Logic.{_≢_}
-use mathlib.Core.Bool.{Bool, true, false, cond, not, true≢false, false≢true, _&&_}
+use mathlib.Core.Bool.{Bool, true, false, cond, true≢false, false≢true}
 use mathlib.Core.List.{List}
 use Prim.Native.Nat.{ℕ, _+_, _≤_, _<_, min}
 use native.Mathlib.Omega.{arith}
-use borrow.Author.Tests.{eq-eqb, ne-eqb}
-use lib.ListN.{length}
+use borrow.Author.Tests.{eq-eqb}
 use Rattle.octets.specs.Cases.{decide}
-use Rattle.octets.specs.First.{count-same}
 use Rattle.octets.specs.declared.Found.{Found}
 use Rattle.octets.specs.declared.Found.the-variants.{At, Nothing}
 use Rattle.answers.specs.Answers.{codeOf}
 use Rattle.answers.specs.declared.Answer.the-variants as A
 use Rattle.layout.specs.Names.{name}
-use Rattle.layout.specs.Session.{namesAt, handleNumber, entrySize, fileSize}
+use Rattle.layout.specs.Session.{namesAt, handleNumber}
 use Rattle.session.specs.declared.head.Head.{Head}
-use Rattle.session.specs.declared.tape_rows.Handle.{Handle}
 use Rattle.session.specs.declared.tape_rows.Staged.{Staged}
 use Rattle.session.specs.declared.views.View.{View}
-use Rattle.session.specs.Rows.{headOf, viewOf, transactionOf, handleOf, ringOf, ringBytes, stagedOf}
-use Rattle.beginning.specs.Transactions.{isOpenAt}
+use Rattle.session.specs.Rows.{headOf, viewOf, ringOf, ringBytes, stagedOf}
 use Rattle.cached_tape.specs.FlushLaws.{fileSize-handle}
-use Rattle.staging.specs.Seeing.{isTruncate, writes, seenBy, touchedAs}
+use Rattle.staging.specs.Seeing.{isTruncate, writes, seenBy}
 use Rattle.ending.specs.CommitLaws.{commit-served}
 use Rattle.ending.specs.Committing.{commitCall}
 use Rattle.ending.specs.Listing.{isTouched}
 use Rattle.ending.specs.StepLaws.{touched-held}
 use Rattle.held.specs.Held.{Held, trimmed}
-use Rattle.lives.specs.Invariant.{Phys, eraseW, build, top, Live, GoodIf, Good}
-use Rattle.lives.specs.Invariant as I
+use Rattle.lives.specs.Invariant.{Phys, build, Good}
 use Rattle.lives.specs.Life.{Reader, cutting, Store, After, Done, step, commit, committed}
-use Rattle.lives.specs.Told.{Staging, Told}
-use Rattle.lives.specs.Told as T
-use Rattle.seen.specs.Seen.{placeOf, shown, viewIn, stagedIn, readerIn, touchedIn, liveIn, handleIn, entryIn, filesFor, countOpen, SeenOpen, Seen, Handled}
+use Rattle.lives.specs.Told.{Told}
+use Rattle.seen.specs.Seen.{placeOf, shown, viewIn, stagedIn, touchedIn, filesFor, countOpen, Seen, Handled}
 use Rattle.seen.specs.Orderly.{Orderly}
 use Rattle.seen.specs.Places.{found-low, found-name, not-found, find-same}
-use Rattle.seen.specs.Touching.{cuts-kind, cuts-as, cuts-open}
+use Rattle.seen.specs.Rows.{size-row, list-at, touched-at, untouched-unwritten, untouched-rows, view-rows, live-rows, count-rows, handled-rows}
+use Rattle.seen.specs.GoodTapes.{good-bounded, all-written}
+use Rattle.seen.specs.Touching.{cuts-kind, cuts-as, cuts-open, its-rows}
 use Rattle.seen.specs.Ends.{touched-row, touched-staged}
 use Rattle.seen.specs.CutLeaves.{CutLeft, cut-left}
 use Rattle.seen.specs.Starts.{CutStarts}
@@ -44,24 +40,8 @@ use Rattle.seen.specs.Starts.{CutStarts}
 -- ---- what is seen of a tape
 
 module _ (d s e u : List ℕ) (o : Orderly d s) (k : ℕ) (c : CutLeft d s k e u) where
-  number-same : (p : ℕ) → p < 8 → handleNumber u p ≡ handleNumber s p
-  unfolding handleOf
-  number-same p low = ap (λ (h : Handle). h .number) (c .handles p low)
-
-  entry-same : (p : ℕ) → p < 8 → entrySize u p ≡ entrySize s p
-  unfolding handleOf
-  entry-same p low = ap (λ (h : Handle). h .entry) (c .handles p low)
-
-  size-same : (p : ℕ) → p < 8 → fileSize u p ≡ fileSize s p
-  unfolding handleOf
-  size-same p low = ap (λ (h : Handle). h .«file_size») (c .handles p low)
-
   place-same : (n : List ℕ) → placeOf u n ≡ placeOf s n
   place-same n = find-same s u namesAt namesAt n (c .names)
-
-  open-same : (t : ℕ) → t < 16 → isOpenAt u t ≡ isOpenAt s t
-  unfolding isOpenAt
-  open-same t low = rw (c .readers t low)
 
   abbrev staged-len : List ℕ → ℕ
   staged-len n = stagedIn s (placeOf s n) .len
@@ -80,12 +60,6 @@ module _ (d s e u : List ℕ) (o : Orderly d s) (k : ℕ) (c : CutLeft d s k e u
       low : p < 8
       low = found-low s namesAt n p found
 
-      its-list : shown (viewOf s 17 p) ≡ record { listed = st .listed; len = st .len; start = st .start }
-      its-list = sym (ap (viewIn s 17) found) ∙ seen .list
-
-      its-touched : isTouched s p ≡ st .touched
-      its-touched = touched-staged d s o p low ∙ sym (ap (touchedIn s) found) ∙ seen .touched
-
       its-len : staged-len n ≡ shown (seenBy s 16 p) .len
       its-len = ap (λ (f : Found). stagedIn s f .len) found
 
@@ -94,7 +68,7 @@ module _ (d s e u : List ℕ) (o : Orderly d s) (k : ℕ) (c : CutLeft d s k e u
         held = touched-held s p touched
 
         touched-list : viewOf s 17 p ≡ record { listed = st .listed; len = st .len; start = st .start }
-        touched-list = sym (rw (c .open-listed p low held)) ∙ its-list
+        touched-list = sym (rw (c .open-listed p low held)) ∙ list-at d s n st seen p found
 
         touched-len : staged-len n ≡ stagedOf s p .len
         unfolding seenBy
@@ -103,7 +77,7 @@ module _ (d s e u : List ℕ) (o : Orderly d s) (k : ℕ) (c : CutLeft d s k e u
       module _ (untouched : isTouched s p ≡ false) where
         untouched-len : staged-len n ≡ st .len
         unfolding seenBy
-        untouched-len = its-len ∙ rw (sym (touched-staged d s o p low) ∙ untouched, o .writer-view (cuts-open s k (c .is)) p low) (ap (λ (v : View). v .len) its-list)
+        untouched-len = its-len ∙ rw (sym (touched-staged d s o p low) ∙ untouched, o .writer-view (cuts-open s k (c .is)) p low) (ap (λ (v : View). v .len) (list-at d s n st seen p found))
 
     module _ (starts : CutStarts s) (bounded : st .start ≤ st .len) where
       abbrev listed-now : View
@@ -127,7 +101,7 @@ module _ (d s e u : List ℕ) (o : Orderly d s) (k : ℕ) (c : CutLeft d s k e u
           let yes : st .listed ≡ true = sym (ap (λ (v : View). v .listed) e) ∙ c .open-listed p l (held p found touched) in
           rw (c .list-touched p l touched, touched-len p found touched, start, yes))
           (λ (untouched : isTouched s p ≡ false).
-          rw (c .list-other p (low p found) untouched) (its-list p found ∙ listed-still (untouched-len p found untouched)))
+          rw (c .list-other p (low p found) untouched) (list-at d s n st seen p found ∙ listed-still (untouched-len p found untouched)))
 
       list-now : viewIn u 17 (placeOf u n) ≡ listed-now
       list-now = ap (viewIn u 17) (place-same n) ∙ by (placeOf s n) refl
@@ -143,9 +117,6 @@ module _ (d s e u : List ℕ) (o : Orderly d s) (k : ℕ) (c : CutLeft d s k e u
     abbrev held-now : Held
     held-now = cond (st .touched) (trimmed (st .size) (staged-len n) (st .held)) (st .held)
 
-    its-open : (p : ℕ) → placeOf s n ≡ At p → handleNumber s p ≢ 0 → SeenOpen s p st
-    its-open p found held = seen .opened p found (sym (seen .live) ∙ ap (liveIn s) found ∙ ap not (ne-eqb (handleNumber s p) 0 held))
-
     files-place : (p : ℕ) → placeOf s n ≡ At p → filesFor e u n ≡ held-now .files
     unfolding trimmed
     files-place p found =
@@ -154,11 +125,11 @@ module _ (d s e u : List ℕ) (o : Orderly d s) (k : ℕ) (c : CutLeft d s k e u
         let all = rw named at (c .ends .files p l) in
         decide (isTouched s p)
         (λ (touched : isTouched s p ≡ true).
-        let o₁ = its-open p found (touched-held s p touched) in
-        let now : st .touched ≡ true = sym (its-touched p found) ∙ touched in
+        let o₁ = its-rows d s n o p found (touched-held s p touched) st seen in
+        let now : st .touched ≡ true = sym (touched-at d s n st seen p found o) ∙ touched in
         all ∙ rw (sym (touched-row s p) ∙ touched, now, touched-len p found touched, fileSize-handle s p, o₁ .size, seen .files))
         (λ (untouched : isTouched s p ≡ false).
-        let now : st .touched ≡ false = sym (its-touched p found) ∙ untouched in
+        let now : st .touched ≡ false = sym (touched-at d s n st seen p found o) ∙ untouched in
         all ∙ rw (sym (touched-row s p) ∙ untouched, now, seen .files))
 
     files-now : filesFor e u n ≡ held-now .files
@@ -178,42 +149,20 @@ module _ (d s e u : List ℕ) (o : Orderly d s) (k : ℕ) (c : CutLeft d s k e u
         let o₁ = seen .opened p found live in
         decide (isTouched s p)
         (λ (touched : isTouched s p ≡ true).
-        let now : st .touched ≡ true = sym (its-touched p found) ∙ touched in
+        let now : st .touched ≡ true = sym (touched-at d s n st seen p found o) ∙ touched in
         (c .ends .ring p l ∙ rw (sym (touched-row s p) ∙ touched, now, touched-len p found touched, o₁ .ring), c .caches p l ∙ rw (now, o₁ .cache), rw (now, written)))
         (λ (untouched : isTouched s p ≡ false).
-        let now : st .touched ≡ false = sym (its-touched p found) ∙ untouched in
+        let now : st .touched ≡ false = sym (touched-at d s n st seen p found o) ∙ untouched in
         (c .ends .ring p l ∙ rw (sym (touched-row s p) ∙ untouched, now, o₁ .ring), c .caches p l ∙ rw (now, o₁ .cache), rw (now, written)))
 
     view-same : (t : ℕ) → t < 16 → viewIn u t (placeOf u n) ≡ viewIn s t (placeOf s n)
-    view-same t l = ap (viewIn u t) (place-same n) ∙ by (placeOf s n) refl
-      where
-        by : (f : Found) → placeOf s n ≡ f → viewIn u t f ≡ viewIn s t f
-        by (At p) found = ap shown (c .views t p (omega arith) (low p found))
-        by Nothing found = refl
+    view-same t l = view-rows s u n (place-same n) t (λ p found. c .views t p (omega arith) (low p found))
 
     readers-same : (has : Reader → Bool) → countOpen has u (placeOf u n) ≡ countOpen has s (placeOf s n)
-    unfolding countOpen
-    readers-same has =
-        count-same (λ t. isOpenAt u t && has (readerIn u (placeOf u n) t)) (λ t. isOpenAt s t && has (readerIn s (placeOf s n) t)) 16 0
-        (λ t a b. rw (open-same t (omega arith), c .readers t (omega arith), view-same t (omega arith)))
+    readers-same = count-rows s u (placeOf s n) (placeOf u n) (c .readers) view-same
 
-    live-same : liveIn u (placeOf u n) ≡ liveIn s (placeOf s n)
-    live-same = ap (liveIn u) (place-same n) ∙ by (placeOf s n) refl
-      where
-        by : (f : Found) → placeOf s n ≡ f → liveIn u f ≡ liveIn s f
-        by (At p) found = rw (number-same p (low p found))
-        by Nothing found = refl
-
-    touched-none : touchedIn u (placeOf u n) ≡ false
-    touched-none = ap (touchedIn u) (place-same n) ∙ by (placeOf s n) refl
-      where
-        by : (f : Found) → placeOf s n ≡ f → touchedIn u f ≡ false
-        by (At p) found = ap (λ (r : Staged). r .touched) (c .unstaged p (low p found))
-        by Nothing found = refl
-
-    unwritten-none : (p : ℕ) → p < 8 → touchedAs u p .unwritten ≡ 0
-    unfolding touchedAs
-    unwritten-none p l = rw (c .unstaged p l)
+    untouched-now : (p : ℕ) → p < 8 → stagedOf u p .touched ≡ false
+    untouched-now p l = ap (λ (r : Staged). r .touched) (c .unstaged p l)
 
     cut-seen : CutStarts s → st .start ≤ st .len → (st .live ≡ true → st .held .unwritten ≡ 0) → Seen e u n (step (commit k) st .store)
     cut-seen starts bounded written =
@@ -225,8 +174,8 @@ module _ (d s e u : List ℕ) (o : Orderly d s) (k : ℕ) (c : CutLeft d s k e u
           list = list-now starts bounded;
           readers = λ has. readers-same has ∙ seen .readers has;
           writer = rw (c .shut);
-          touched = touched-none;
-          live = live-same ∙ seen .live;
+          touched = untouched-rows u (placeOf u n) (λ p found. untouched-now p (found-low u namesAt n p found));
+          live = live-rows s u n (place-same n) (λ p found. c .handles p (low p found)) ∙ seen .live;
           files = files-now;
           opened = λ p found live.
               let q : placeOf s n ≡ At p = sym (place-same n) ∙ found in
@@ -235,38 +184,13 @@ module _ (d s e u : List ℕ) (o : Orderly d s) (k : ℕ) (c : CutLeft d s k e u
               record {
                 ring = now .0;
                 cache = now .1;
-                size = size-same p l ∙ seen .opened p q live .size;
-                unwritten = unwritten-none p l ∙ now .2;
-                base = λ touched. absurd (true≢false (sym touched ∙ ap (λ (r : Staged). r .touched) (c .unstaged p l)));
+                size = size-row s u p (c .handles p l) ∙ seen .opened p q live .size;
+                unwritten = untouched-unwritten u p (untouched-now p l) ∙ now .2;
+                base = λ touched. absurd (true≢false (sym touched ∙ untouched-now p l));
               };
         })
 
 -- ---- the laws
-
--- from what is good: a tape starts inside itself, and without an append nothing is unwritten
-good-bounded : (t : Told) (p : Phys) → Good t p → t .start ≤ length (t .content)
-good-bounded t p good = by (t .live) good
-  where
-    by : (live : Bool) → GoodIf live t p → t .start ≤ length (t .content)
-    by true g = g .bounded
-    by false g = g .bounded
-
-good-written : (t : Told) (p : Phys) → Good t p → top (t .content) (t .writer) ≡ t .content → I.isAppend (t .writer) ≡ false → t .live ≡ true → p .held .unwritten ≡ 0
-good-written t p good same none live =
-    let g : Live t p = subst (λ (b : Bool). GoodIf b t p) live good in
-    let new = rw same at (g .sound .new) in
-    let even = g .even none in
-    omega arith
-
-cutting-only : (epoch k len : ℕ) (w : Staging) → eraseW epoch w ≡ cutting k len → I.isAppend w ≡ false
-cutting-only epoch k len T.idle same = refl
-cutting-only epoch k len (T.appending m h c s) same = let z : _≡_ {A = ℕ} 0 1 = cc in absurd (omega arith)
-cutting-only epoch k len (T.cutting m c) same = refl
-
-top-same : (c : List ℕ) (w : Staging) → I.isAppend w ≡ false → top c w ≡ c
-top-same c T.idle none = refl
-top-same c (T.appending m h d s) none = absurd (true≢false none)
-top-same c (T.cutting m d) none = refl
 
 module _ (d s : List ℕ) (o : Orderly d s) (k : ℕ) (served : codeOf (commitCall d s k .answer) ≡ 0) (other : writes s k ≡ false) where
   abbrev disk : List ℕ
@@ -291,20 +215,7 @@ module _ (d s : List ℕ) (o : Orderly d s) (k : ℕ) (served : codeOf (commitCa
 
     pub commit-cut-seen : CutStarts s → (t : Told) (p : Phys) → Good t p → Seen d s n (build t p) → Seen disk session n (step (commit k) (build t p) .store)
     commit-cut-seen starts t p good seen =
-        let none : I.isAppend (t .writer) ≡ false = cutting-only (t .epoch) k _ (t .writer) (its-writer d s disk session o k c n (build t p) seen) in
-        cut-seen d s disk session o k c n (build t p) seen starts (good-bounded t p good) (good-written t p good (top-same (t .content) (t .writer) none) none)
+        cut-seen d s disk session o k c n (build t p) seen starts (good-bounded t p good) (all-written t p good k _ (its-writer d s disk session o k c n (build t p) seen))
 
     pub commit-cut-handled : (handle entry : ℕ) → Handled s n handle entry → Handled session n handle entry
-    commit-cut-handled handle entry h =
-        record {
-          number = ap (handleIn session) (place-same d s disk session o k c n) ∙ number-in (placeOf s n) refl ∙ h .number;
-          size = λ some. ap (entryIn session) (place-same d s disk session o k c n) ∙ entry-in (placeOf s n) refl ∙ h .size some;
-        }
-      where
-        number-in : (f : Found) → placeOf s n ≡ f → handleIn session f ≡ handleIn s f
-        number-in (At p) found = number-same d s disk session o k c p (found-low s namesAt n p found)
-        number-in Nothing found = refl
-
-        entry-in : (f : Found) → placeOf s n ≡ f → entryIn session f ≡ entryIn s f
-        entry-in (At p) found = entry-same d s disk session o k c p (found-low s namesAt n p found)
-        entry-in Nothing found = refl
+    commit-cut-handled = handled-rows s session n (place-same d s disk session o k c n) (λ p found. c .handles p (found-low s namesAt n p found))

@@ -2,14 +2,13 @@
 -- that it touched have their directories. What is left to refuse is the last epoch, and for an append that no slot is free. Assumes nothing.
 use mathlib.Core.Path.{_≡_, refl, sym, ap, subst, _∙_}
 use mathlib.Core.Logic.{_≢_}
-use mathlib.Core.Bool.{Bool, true, false, true≢false, false≢true, _&&_}
-use mathlib.Core.List.{List, [], _∷_}
+use mathlib.Core.Bool.{Bool, true, false, true≢false, _&&_}
+use mathlib.Core.List.{List, []}
 use Prim.Native.Nat.{ℕ, zero, suc, _+_, _≤_, _<_}
 use native.Mathlib.Omega.{arith}
 use borrow.Author.Tests.{eq-eqb, ne-eqb}
-use lib.Dec.{eqb}
 use lib.ListN.{length}
-use Rattle.octets.specs.Cases.{decide, order, and-l}
+use Rattle.octets.specs.Cases.{decide}
 use Rattle.octets.specs.Compare.{comesBefore, before-irrefl, before-trans, before-total}
 use Rattle.octets.specs.First.{count, count-le, count-same, count-more, all-true}
 use Rattle.octets.specs.declared.Found.{Found}
@@ -19,12 +18,9 @@ use Rattle.answers.specs.declared.Answer.the-variants.{Done}
 use Rattle.metadata.specs.Struct.{listOf, storable}
 use Rattle.layout.specs.Names.{name}
 use Rattle.layout.specs.Session.{namesAt}
-use Rattle.session.specs.declared.transactions.Kind.{Kind}
-use Rattle.session.specs.declared.transactions.Kind.the-variants as K
-use Rattle.session.specs.declared.views.View.{View}
-use Rattle.session.specs.Rows.{headOf, viewOf, transactionOf, stagedOf}
+use Rattle.session.specs.Rows.{headOf, viewOf, stagedOf}
 use Rattle.beginning.specs.Transactions.{isOpenAt}
-use Rattle.staging.specs.Seeing.{isTruncate, seenBy, writes, cuts}
+use Rattle.staging.specs.Seeing.{writes, cuts}
 use Rattle.appending.specs.Room.{noRoom}
 use Rattle.ending.specs.Checking.{isPublished, hasDirectory, allThere, isWhole, mayCommit}
 use Rattle.ending.specs.CommitLaws.{theList}
@@ -38,15 +34,20 @@ use Rattle.held.specs.Held.{Held}
 use Rattle.lives.specs.Life.{Writer}
 use Rattle.lives.specs.Told.{Staging, Told}
 use Rattle.lives.specs.Invariant.{Phys, eraseW, build, Staged, Live, GoodIf, Good}
-use Rattle.seen.specs.Seen.{placeOf, shown, viewIn, stagedIn, Seen}
+use Rattle.seen.specs.Seen.{placeOf, viewIn, stagedIn, Seen}
 use Rattle.seen.specs.Orderly.{Orderly}
 use Rattle.seen.specs.Proper.{Proper}
 use Rattle.seen.specs.Closes.{orderly-usable}
-use Rattle.seen.specs.CommitAppends.{writes-kind}
+use Rattle.seen.specs.CommitAppends.{touched-view}
+use Rattle.seen.specs.GoodTapes.{good-bounded}
+use Rattle.seen.specs.Shown.{shown-whole}
 use Rattle.seen.specs.Handles.{live-at}
 use Rattle.seen.specs.Places.{found-at}
 use Rattle.seen.specs.ProperLaws.{listed-named}
-use Rattle.seen.specs.Turns.{touched-row, touched-named}
+use Rattle.seen.specs.Turns.{touched-named}
+use Rattle.seen.specs.Kinds.{writes-kind, writes-open, cuts-open}
+pub use Rattle.seen.specs.Lists.{published-named}
+use Rattle.seen.specs.Lists.{behind-none, published-apart}
 
 -- ---- the list has as many tapes as are published, where no two of them have one name
 
@@ -106,12 +107,6 @@ module _ (s : List ℕ) (cut : Bool)
           omega (arith, rest (name s namesAt p) (omega arith))
       by Nothing e rest = sym (none-left before e)
 
--- a name that is not the empty one comes behind it
-behind-none : (n : List ℕ) → 0 < length n → comesBefore [] n ≡ true
-unfolding comesBefore
-behind-none [] some = absurd (omega arith)
-behind-none (x ∷ n) some = refl
-
 -- ---- what is checked before a commit
 
 -- no published start is above its length
@@ -119,28 +114,15 @@ abbrev pub Bounded : List ℕ → Bool → Type 0
 Bounded s cut = (p : ℕ) → p < 8 → published s cut p .listed ≡ true → published s cut p .start ≤ published s cut p .len
 
 module _ (d s : List ℕ) (o : Orderly d s) (running : isOpenAt s 16 ≡ true) (cut : Bool) where
-  -- a free place publishes nothing
-  free-unpublished : (p : ℕ) → p < 8 → length (name s namesAt p) ≡ 0 → published s cut p .listed ≡ false
-  unfolding published isTouched
-  free-unpublished p low free = rw (o .free-shut p low free, o .writer-view running p low) (o .free-unlisted p low free)
-
-  pub published-named : (p : ℕ) → p < 8 → published s cut p .listed ≡ true → 0 < length (name s namesAt p)
-  published-named p low listed =
-      order 0 (length (name s namesAt p)) (λ l. l)
-      (λ (l : length (name s namesAt p) ≤ 0). absurd (true≢false (sym listed ∙ free-unpublished p low (omega arith))))
-
-  published-apart : (p q : ℕ) → p < 8 → q < 8 → published s cut p .listed ≡ true → published s cut q .listed ≡ true → name s namesAt p ≡ name s namesAt q → p ≡ q
-  published-apart p q low high listed also same = o .names p q low high (published-named p low listed) same
-
   list-whole : isWhole s cut (theList s cut) ≡ true
   unfolding isWhole listOf
   list-whole =
       eq-eqb (length (nextList s cut)) (count (isPublished s cut) 8 0)
-      (as-many s cut published-apart 8 [] (count-le (isBehind s cut []) 8 0)
+      (as-many s cut (published-apart d s o running cut) 8 [] (count-le (isBehind s cut []) 8 0)
       ∙ count-same (isBehind s cut []) (isPublished s cut) 8 0
       (λ p a b.
       decide (published s cut p .listed)
-      (λ (listed : published s cut p .listed ≡ true). rw (listed, behind-none (name s namesAt p) (published-named p (omega arith) listed)))
+      (λ (listed : published s cut p .listed ≡ true). rw (listed, behind-none (name s namesAt p) (published-named d s o running cut p (omega arith) listed)))
       (λ (unlisted : published s cut p .listed ≡ false). rw unlisted)))
 
   all-there : allThere d s ≡ true
@@ -156,7 +138,7 @@ module _ (d s : List ℕ) (o : Orderly d s) (running : isOpenAt s 16 ≡ true) (
       (bounded : Bounded s cut) where
     list-storable : storable (theList s cut) ≡ true
     list-storable =
-        next-storable s cut (λ p low listed. record { rule = proper .rule p low (published-named p low listed); inside = bounded p low listed })
+        next-storable s cut (λ p low listed. record { rule = proper .rule p low (published-named d s o running cut p low listed); inside = bounded p low listed })
 
     may-commit : mayCommit d s cut (theList s cut) ≡ Done (headOf s .epoch + 1)
     unfolding mayCommit
@@ -164,28 +146,13 @@ module _ (d s : List ℕ) (o : Orderly d s) (running : isOpenAt s 16 ≡ true) (
 
 -- ---- the calls
 
-truncate-kind : (kind : Kind) → isTruncate kind ≡ true → kind ≡ K.Truncate
-truncate-kind K.Closed e = absurd (false≢true e)
-truncate-kind K.Reader e = absurd (false≢true e)
-truncate-kind K.Append e = absurd (false≢true e)
-truncate-kind K.Truncate e = refl
-
-module _ (s : List ℕ) (k : ℕ) where
-  append-running : writes s k ≡ true → isOpenAt s 16 ≡ true
-  unfolding isOpenAt
-  append-running w = rw (writes-kind s k w)
-
-  truncate-running : cuts s k ≡ true → isOpenAt s 16 ≡ true
-  unfolding isOpenAt cuts
-  truncate-running c = rw (truncate-kind (transactionOf s 16 .kind) (and-l (isTruncate (transactionOf s 16 .kind)) (eqb (transactionOf s 16 .number) k) c))
-
 module _ (d s : List ℕ) (k : ℕ) (o : Orderly d s) (proper : Proper d s) (more : headOf s .epoch ≢ 0xffff_ffff_ffff_ffff) where
   pub commit-append-serves : writes s k ≡ true → noRoom d s 8 0 ≡ false → Bounded s false → commitCall d s k .answer ≡ Done (headOf s .epoch + 1)
   unfolding appended
   commit-append-serves w room bounded =
       ap (λ (r : Outcome). r .answer)
       (commit-appends d s k (orderly-usable d s o) w
-      ∙ append-served d s (theList s false) refl _ (may-commit d s o (append-running s k w) false proper more bounded) room)
+      ∙ append-served d s (theList s false) refl _ (may-commit d s o (writes-open s k w) false proper more bounded) room)
 
   pub commit-truncate-serves : cuts s k ≡ true → Bounded s true → commitCall d s k .answer ≡ Done (headOf s .epoch + 1)
   unfolding truncatedBy
@@ -194,21 +161,9 @@ module _ (d s : List ℕ) (k : ℕ) (o : Orderly d s) (proper : Proper d s) (mor
       = decide (writes s k) (λ (w : writes s k ≡ true). absurd (true≢false (sym c ∙ writes-cuts s k w))) (λ f. f) in
       ap (λ (r : Outcome). r .answer)
       (commit-truncates d s k (orderly-usable d s o) other c
-      ∙ truncate-served d s (theList s true) refl _ (may-commit d s o (truncate-running s k c) true proper more bounded))
+      ∙ truncate-served d s (theList s true) refl _ (may-commit d s o (cuts-open s k c) true proper more bounded))
 
 -- ---- starts are not above lengths, where every tape is as `lives` says
-
-good-bounded : (b : Bool) (t : Told) (h : Phys) → GoodIf b t h → t .start ≤ length (t .content)
-good-bounded true t h good = good .bounded
-good-bounded false t h good = good .bounded
-
--- a view that lists is shown whole
-shown-whole : (v : View) → v .listed ≡ true → v ≡ shown v
-shown-whole v e = rw e
-
-touched-view : (s : List ℕ) (p : ℕ) → isTouched s p ≡ true → stagedIn s (At p) ≡ record { listed = true; len = stagedOf s p .len; start = stagedOf s p .start }
-unfolding seenBy
-touched-view s p t = rw (touched-row s p t .0)
 
 -- what an append has staged
 staged-within : (epoch number began len start : ℕ) (here : Bool) (fs : ℕ) (touched : Bool) (h : Held) (content : List ℕ) (old : ℕ) (x : Staging)
@@ -236,7 +191,7 @@ module _ (d s : List ℕ) (o : Orderly d s) (t : List ℕ → Told) (h : List �
         let seen = each n some .1 in
         let view : viewOf s 17 p ≡ record { listed = t n .listed; len = length (t n .content); start = t n .start }
         = shown-whole (viewOf s 17 p) listed ∙ ap (viewIn s 17) (sym at) ∙ seen .list in
-        rw view (good-bounded (t n .live) (t n) (h n) (each n some .0))
+        rw view (good-bounded (t n) (h n) (each n some .0))
 
     -- that the append has touched
     touched-bounded : (k : ℕ) → writes s k ≡ true → isTouched s p ≡ true → stagedOf s p .start ≤ stagedOf s p .len
@@ -260,11 +215,11 @@ module _ (d s : List ℕ) (o : Orderly d s) (t : List ℕ → Told) (h : List �
   append-bounded k w p low listed =
       decide (isTouched s p)
       (λ (t : isTouched s p ≡ true). rw t (touched-bounded p low (touched-named d s o p low t) k w t))
-      (λ (t : isTouched s p ≡ false). untouched-bounded (append-running s k w) false p low t listed)
+      (λ (t : isTouched s p ≡ false). untouched-bounded (writes-open s k w) false p low t listed)
 
   pub truncate-bounded : (k : ℕ) → cuts s k ≡ true → Bounded s true
   unfolding published
   truncate-bounded k c p low listed =
       decide (isTouched s p)
       (λ (t : isTouched s p ≡ true). rw t (omega arith))
-      (λ (t : isTouched s p ≡ false). untouched-bounded (truncate-running s k c) true p low t listed)
+      (λ (t : isTouched s p ≡ false). untouched-bounded (cuts-open s k c) true p low t listed)

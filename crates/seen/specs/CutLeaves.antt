@@ -4,16 +4,15 @@ use mathlib.Core.Path.{_≡_, sym, ap, _∙_}
 use mathlib.Core.Logic.{_≢_}
 use mathlib.Core.Bool.{true, false, true≢false}
 use mathlib.Core.List.{List}
-use Prim.Native.Nat.{ℕ, _≤_, _<_, min}
+use Prim.Native.Nat.{ℕ, _<_, min}
 use native.Mathlib.Omega.{arith}
-use Rattle.octets.specs.Cases.{decide, order}
+use Rattle.octets.specs.Cases.{decide}
 use Rattle.octets.specs.Words.{table-in}
 use Rattle.answers.specs.Answers.{codeOf}
 use Rattle.answers.specs.Outcome.{Outcome}
 use Rattle.layout.specs.Disk.{directories}
 use Rattle.layout.specs.Names.{name, names}
 use Rattle.layout.specs.Session.{namesAt, handleNumber}
-use Rattle.session.specs.declared.tape_rows.Handle.{Handle}
 use Rattle.session.specs.declared.tape_rows.Staged.{Staged}
 use Rattle.session.specs.declared.transactions.Transaction.{Transaction}
 use Rattle.session.specs.declared.views.View.{View}
@@ -31,6 +30,7 @@ use Rattle.ending.specs.StepLaws.{nextHead, touched-held}
 use Rattle.touches.specs.Commits.{commit-leaves-session}
 use Rattle.touches.specs.Rows.{row-stays, handle-stays, cache-stays}
 use Rattle.seen.specs.Orderly.{Orderly}
+use Rattle.seen.specs.Rows.{number-row, open-row, shut-row, reader-low}
 use Rattle.seen.specs.Touching.{cuts-kind, cuts-open}
 use Rattle.seen.specs.Lists.{commit-recorded}
 use Rattle.seen.specs.CutRows.{CutEnd, commit-cut-end}
@@ -95,8 +95,7 @@ module _ (d s : List ℕ) (o : Orderly d s) (k : ℕ) (served : codeOf (commitCa
       handle-stays _ _ s u stay p (omega arith) (omega arith)
 
   number-same : (p : ℕ) → p < 8 → handleNumber u p ≡ handleNumber s p
-  unfolding handleOf
-  number-same p low = ap (λ (h : Handle). h .number) (handle-same p low)
+  number-same p low = number-row s u p (handle-same p low)
 
   cache-same : (p : ℕ) → p < 8 → ringBytes u p ≡ ringBytes s p
   cache-same p low =
@@ -104,19 +103,10 @@ module _ (d s : List ℕ) (o : Orderly d s) (k : ℕ) (served : codeOf (commitCa
 
   -- transactions: the readers stay
   open-same : (t : ℕ) → t < 16 → isOpenAt u t ≡ isOpenAt s t
-  unfolding isOpenAt
-  open-same t low = rw (left .readers t low)
+  open-same t low = open-row s u t (left .readers t low)
 
   writer-shut : isOpenAt u 16 ≡ false
-  unfolding isOpenAt
-  writer-shut = rw (left .shut)
-
-  reader-low : (t : ℕ) → t < 17 → isOpenAt u t ≡ true → t < 16
-  reader-low t low is-open =
-      order t 16 (λ l. l)
-      (λ (l : 16 ≤ t).
-      let e : t ≡ 16 = omega arith in
-      absurd (true≢false (sym is-open ∙ ap (isOpenAt u) e ∙ writer-shut)))
+  writer-shut = shut-row u 16 (left .shut)
 
   -- the list
   open-listed : (p : ℕ) → p < 8 → handleNumber s p ≢ 0 → viewOf s 17 p .listed ≡ true
@@ -170,12 +160,12 @@ module _ (d s : List ℕ) (o : Orderly d s) (k : ℕ) (served : codeOf (commitCa
         handles = λ p q l m some same. o .handles p q l m (rw (number-same p l) at some) (sym (number-same p l) ∙ same ∙ number-same q m);
         handle-given = λ p l. rw (number-same p l, left .head) (o .handle-given p l);
         numbers = λ t v l m open-t open-v same.
-            let a = reader-low t l open-t in
-            let b = reader-low v m open-v in
+            let a = reader-low u writer-shut t l open-t in
+            let b = reader-low u writer-shut v m open-v in
             o .numbers t v l m (sym (open-same t a) ∙ open-t) (sym (open-same v b) ∙ open-v)
             (ap (λ (r : Transaction). r .number) (sym (left .readers t a)) ∙ same ∙ ap (λ (r : Transaction). r .number) (left .readers v b));
         number-given = λ t l open-t.
-            let a = reader-low t l open-t in
+            let a = reader-low u writer-shut t l open-t in
             rw (left .readers t a, left .head) (o .number-given t l (sym (open-same t a) ∙ open-t));
         free-shut = λ p l none. number-same p l ∙ o .free-shut p l (rw (name-same p l) at none);
         free-unlisted = λ p l none. listed-same p l ∙ o .free-unlisted p l (rw (name-same p l) at none);

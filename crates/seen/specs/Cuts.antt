@@ -3,12 +3,11 @@ use mathlib.Core.Path.{_≡_, refl, sym, ap, _∙_, subst}
 use mathlib.Core.Logic.{_≢_}
 use mathlib.Core.Bool.{Bool, true, false, true≢false}
 use mathlib.Core.List.{List}
-use Prim.Native.Nat.{ℕ, _+_, _*_, _-_, _/_, _≤_, _<_}
+use Prim.Native.Nat.{ℕ, _*_, _-_, _/_, _≤_, _<_}
 use native.Mathlib.Nat.{div-le-self}
 use native.Mathlib.Omega.{arith}
 use borrow.Author.Tests.{eq-eqb, le-leb, eqb-false}
 use lib.Dec.{eqb}
-use lib.ListN.{length}
 use Rattle.octets.specs.Cases.{picked}
 use Rattle.octets.specs.declared.Found.{Found}
 use Rattle.octets.specs.declared.Found.the-variants.{At, Nothing}
@@ -34,14 +33,14 @@ use Rattle.appending.specs.CallWays.{seen-touched}
 use Rattle.entries.specs.Reads.{noneFor}
 use Rattle.entries.specs.Popping.{cutAt, popAt, popOn, popIn, popCall}
 use Rattle.entries.specs.Laws.{filled, read-on-cases, last, Poppable, popped, pop-done}
-use Rattle.lives.specs.Told.{Told, Staging}
-use Rattle.lives.specs.Told as T
-use Rattle.lives.specs.Invariant.{Phys, Live, GoodIf, Good, build, eraseW, isAppend, top}
+use Rattle.lives.specs.Told.{Told}
+use Rattle.lives.specs.Invariant.{Phys, Good, build}
 use Rattle.lives.specs.Life.{Writer, cutting, Store, After, Done, cut, step, then}
 use Rattle.joins.specs.Caches.{Becomes}
 use Rattle.seen.specs.Seen.{placeOf, Seen, Handled}
 use Rattle.seen.specs.Orderly.{Orderly}
 use Rattle.seen.specs.Handles.{handle-own}
+use Rattle.seen.specs.GoodTapes.{all-written}
 use Rattle.seen.specs.Touching.{OnHandle, Leads, stagedLen, cuts-kind, cuts-as, cuts-open, cut-writer, cut-listed, its-live, its-base, staged, writerWith}
 use Rattle.seen.specs.Stages.{Put, becomes, on-handle, put-own, Finds, entry-of}
 
@@ -51,16 +50,6 @@ model-cut : (st : Store) (k len to : ℕ) → st .writer ≡ cutting k len → s
     → step (cut k to) st ≡ then (Done 0) (st .last) st (st .readers) (cutting k to) true (st .live) (st .held)
 unfolding step
 model-cut st k len to writer live listed within = rw (writer, eq-eqb k k refl, live, listed, le-leb to len within)
-
--- in a truncate the files lack nothing
-none-unwritten : (t : Told) (x : Phys) → Live t x → (k len : ℕ) → eraseW (t .epoch) (t .writer) ≡ cutting k len → x .held .unwritten ≡ 0
-none-unwritten t x live k len = by (t .writer) refl
-  where
-    by : (w : Staging) → t .writer ≡ w → eraseW (t .epoch) w ≡ cutting k len → x .held .unwritten ≡ 0
-    by T.idle e is = let z : _≡_ {A = ℕ} 0 1 = cc in absurd (omega arith)
-    by (T.appending m b c s) e is = let z : _≡_ {A = ℕ} 0 1 = cc in absurd (omega arith)
-    by (T.cutting m c) e is =
-        omega (arith, live .even (ap isAppend e), subst (λ (w : Staging). x .base + x .held .unwritten ≤ length (top (t .content) w)) e (live .sound .new))
 
 -- the row of a tape that is cut
 abbrev pub cutRow : List ℕ → ℕ → ℕ → Staged
@@ -115,7 +104,7 @@ module _ (d s : List ℕ) (o : Orderly d s) (k h : ℕ) (u : List ℕ) (c : Cuts
       let is-writer = cut-writer d s n o p at held st seen k (c .writer) (c .listed) in
       let goes = model-cut st k (touchedAs s p .len) (c .to) is-writer live (cut-listed d s n o p at held st seen k (c .writer)) (c .within) in
       let is : writerWith s row ≡ cutting k (c .to) = rw (cuts-kind s k (c .writer), cuts-as s k (c .writer)) in
-      let none : x .held .unwritten ≡ 0 = none-unwritten t x (subst (λ (b : Bool). GoodIf b t x) live good) k (touchedAs s p .len) is-writer in
+      let none : x .held .unwritten ≡ 0 = all-written t x good k (touchedAs s p .len) is-writer live in
       subst (λ (a : After). Leads d u n a 0) (sym goes)
       (record {
         answer = refl;
@@ -235,6 +224,7 @@ none-is TooLarge = refl
 none-entry : (why : Refusal) (i : ℕ) → noneFor why ≢ Entry i
 none-entry why i e = true≢false (sym (ap isEntry e) ∙ none-is why)
 
+-- the ways of `pop-cases` (`entries/specs/Laws.antt`), walked once more: there a pop that changes nothing may have any answer, here it has no entry
 module _ (P : Popping → Type 0) (d s : List ℕ) (t h : ℕ) (out : List ℕ) (no : (a : OneEntry) → ((i : ℕ) → a ≢ Entry i) → P (popping a s out)) where
   pop-by : ((p : ℕ) → Poppable d s t h out p → P (popping (Entry (last s p)) (popped s p) (filled d s p (last s p) 1 out))) → P (popCall d s t h out)
   unfolding popCall popOn popAt

@@ -4,11 +4,11 @@ use mathlib.Core.Path.{_≡_, refl, sym, ap, _∙_}
 use mathlib.Core.Logic.{_≢_}
 use mathlib.Core.Bool.{true, false, not, true≢false}
 use mathlib.Core.List.{List, []}
-use Prim.Native.Nat.{ℕ, _≤_, _<_}
+use Prim.Native.Nat.{ℕ, _<_}
 use native.Mathlib.Omega.{arith}
 use borrow.Author.Tests.{eqb-true}
 use lib.ListN.{length}
-use Rattle.octets.specs.Cases.{decide, order, and-r}
+use Rattle.octets.specs.Cases.{decide, and-r}
 use Rattle.octets.specs.Compare.{sameBytes, same-true}
 use Rattle.octets.specs.First.{first-hits, first-never}
 use Rattle.octets.specs.Sweep.{sweep, sweep-keeps}
@@ -18,7 +18,6 @@ use Rattle.answers.specs.declared.Answer.the-variants.{Done}
 use Rattle.layout.specs.Names.{name, findName}
 use Rattle.layout.specs.Session.{namesAt, handleNumber, Begun}
 use Rattle.session.specs.declared.head.Head.{Head}
-use Rattle.session.specs.declared.tape_rows.Handle.{Handle}
 use Rattle.session.specs.declared.tape_rows.Staged.{Staged}
 use Rattle.session.specs.declared.transactions.Kind.the-variants as K
 use Rattle.session.specs.declared.transactions.Transaction.{Transaction}
@@ -37,6 +36,7 @@ use Rattle.touches.specs.Rows.{head-stays, view-stays, transaction-stays, cache
 use Rattle.seen.specs.Seen.{placeOf, shown, viewIn, filesFor}
 use Rattle.seen.specs.Orderly.{Orderly}
 use Rattle.seen.specs.Places.{found-low, found-name, not-found, found-at}
+use Rattle.seen.specs.Rows.{number-of, number-row, open-row, shut-row, reader-low}
 use Rattle.seen.specs.Lists.{recorded-same}
 use Rattle.seen.specs.Ends.{Row, rowOf, touched-row, touched-staged, orderly-apart, closed-row, closed-files}
 use Rattle.seen.specs.DropRows.{rowAfterDrop, filesAfterDrop, drop-rows, drop-files, drop-apart}
@@ -95,8 +95,7 @@ module _ (d s : List ℕ) (o : Orderly d s) (k : ℕ) (u : List ℕ) (c : DropLe
       stays-handle = ap (λ (r : Row). r .handle) (c .rows p low) ∙ same-row .0
 
       pub stays-number : handleNumber u p ≡ handleNumber s p
-      unfolding handleOf
-      stays-number = ap (λ (h : Handle). h .number) stays-handle
+      stays-number = number-row s u p stays-handle
 
       pub stays-name : name u namesAt p ≡ name s namesAt p
       stays-name = ap (λ (r : Row). r .name) (c .rows p low) ∙ same-row .1
@@ -111,8 +110,7 @@ module _ (d s : List ℕ) (o : Orderly d s) (k : ℕ) (u : List ℕ) (c : DropLe
       gone-row = rw (sym (touched-row s p) ∙ is, seen-listed ∙ none) (refl, refl)
 
       pub gone-number : handleNumber u p ≡ 0
-      unfolding handleOf
-      gone-number = ap (λ (h : Handle). h .number) (ap (λ (r : Row). r .handle) (c .rows p low) ∙ gone-row .0)
+      gone-number = number-of u p noHandle (ap (λ (r : Row). r .handle) (c .rows p low) ∙ gone-row .0)
 
       pub gone-name : name u namesAt p ≡ []
       gone-name = ap (λ (r : Row). r .name) (c .rows p low) ∙ gone-row .1
@@ -249,19 +247,10 @@ module _ (d s : List ℕ) (o : Orderly d s) (k : ℕ) (found : findTransaction s
   c = drop-left
 
   open-same : (t : ℕ) → t < 16 → isOpenAt u t ≡ isOpenAt s t
-  unfolding isOpenAt
-  open-same t low = rw (c .readers t low)
+  open-same t low = open-row s u t (c .readers t low)
 
   writer-shut : isOpenAt u 16 ≡ false
-  unfolding isOpenAt
-  writer-shut = rw (c .shut)
-
-  reader-low : (t : ℕ) → t < 17 → isOpenAt u t ≡ true → t < 16
-  reader-low t low is-open =
-      order t 16 (λ l. l)
-      (λ (l : 16 ≤ t).
-      let e : t ≡ 16 = omega arith in
-      absurd (true≢false (sym is-open ∙ ap (isOpenAt u) e ∙ writer-shut)))
+  writer-shut = shut-row u 16 (c .shut)
 
   listed-same : (w p : ℕ) → w < 18 → p < 8 → viewOf u w p .listed ≡ viewOf s w p .listed
   listed-same w p l m = ap (λ (v : View). v .listed) (c .views w p l m)
@@ -300,12 +289,12 @@ module _ (d s : List ℕ) (o : Orderly d s) (k : ℕ) (found : findTransaction s
             (λ is none. rw (gone-number d s o k u c p l is none) (omega arith))
             (λ stays. rw (numbered p l stays, c .head) (o .handle-given p l));
         numbers = λ t v l m open-t open-v same.
-            let a = reader-low t l open-t in
-            let b = reader-low v m open-v in
+            let a = reader-low u writer-shut t l open-t in
+            let b = reader-low u writer-shut v m open-v in
             o .numbers t v l m (sym (open-same t a) ∙ open-t) (sym (open-same v b) ∙ open-v)
             (ap (λ (r : Transaction). r .number) (sym (c .readers t a)) ∙ same ∙ ap (λ (r : Transaction). r .number) (c .readers v b));
         number-given = λ t l open-t.
-            let a = reader-low t l open-t in
+            let a = reader-low u writer-shut t l open-t in
             rw (c .readers t a, c .head) (o .number-given t l (sym (open-same t a) ∙ open-t));
         free-shut = λ p l none.
             fate d s o k u c p l

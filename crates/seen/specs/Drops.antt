@@ -13,14 +13,12 @@ use Rattle.octets.specs.Cases.{picked, decide, equal, and-l}
 use Rattle.octets.specs.First.{count-same}
 use Rattle.octets.specs.declared.Found.{Found}
 use Rattle.octets.specs.declared.Found.the-variants.{At, Nothing}
-use Rattle.layout.specs.Session.{namesAt, handleNumber, entrySize, fileSize}
+use Rattle.layout.specs.Session.{namesAt, handleNumber}
 use Rattle.session.specs.declared.head.Head.{Head}
-use Rattle.session.specs.declared.tape_rows.Handle.{Handle}
 use Rattle.session.specs.declared.tape_rows.Staged.{Staged}
 use Rattle.session.specs.declared.transactions.Kind.the-variants as K
 use Rattle.session.specs.declared.views.View.{View}
-use Rattle.session.specs.Meaning.{noView}
-use Rattle.session.specs.Rows.{viewOf, transactionOf, handleOf, ringOf, ringBytes, stagedOf, findTransaction}
+use Rattle.session.specs.Rows.{viewOf, transactionOf, ringOf, ringBytes, stagedOf, findTransaction}
 use Rattle.answers.specs.declared.Answer.the-variants as A
 use Rattle.beginning.specs.Transactions.{isOpenAt}
 use Rattle.beginning.specs.Transactions as B
@@ -29,17 +27,15 @@ use Rattle.ending.specs.Dropping.{dropTransactionCall}
 use Rattle.ending.specs.Listing.{isTouched}
 use Rattle.held.specs.Held.{Held, takenBack}
 use Rattle.lives.specs.Life.{Reader, idle, appending, Store, After, Done, step, drop′, then, asleep}
-use Rattle.seen.specs.Seen.{placeOf, shown, viewIn, stagedIn, readerIn, touchedIn, liveIn, handleIn, entryIn, filesFor, countOpen, SeenOpen, Seen, Handled}
+use Rattle.seen.specs.Seen.{placeOf, viewIn, stagedIn, readerIn, touchedIn, liveIn, handleIn, entryIn, filesFor, countOpen, Seen, Handled}
 use Rattle.seen.specs.Orderly.{Orderly}
 use Rattle.seen.specs.Places.{found-low, found-name, not-found}
-use Rattle.seen.specs.Handles.{live-at}
+use Rattle.seen.specs.Rows.{entry-row, size-row, open-row, list-at, touched-at, untouched-unwritten, untouched-rows}
+use Rattle.seen.specs.Shown.{shown-keeps}
+use Rattle.seen.specs.Turns.{no-place}
 use Rattle.seen.specs.Ends.{Row, touched-row, touched-staged}
 use Rattle.seen.specs.Starts.{CutStarts}
 use Rattle.seen.specs.DropLeaves.{rowThen, DropLeft, Stays, unstaged, seen-listed, fate, stays-handle, stays-number, stays-listed, place-none, place-stays, place-gone, view-same, drop-is, drop-left}
-
--- a view that is shown is listed or not as it was
-shown-listed : (v : View) → shown v .listed ≡ v .listed
-shown-listed v = picked (λ (x : View). x .listed ≡ v .listed) (v .listed) v noView (λ e. refl) (λ e. sym e)
 
 module _ (d s : List ℕ) (o : Orderly d s) (k : ℕ) (u : List ℕ) (c : DropLeft d s k u) (n : List ℕ) (some : 0 < length n) where
   abbrev tape : Found
@@ -77,17 +73,8 @@ module _ (d s : List ℕ) (o : Orderly d s) (k : ℕ) (u : List ℕ) (c : DropLe
     -- ---- what the tape was
 
     module _ (p : ℕ) (found : tape ≡ At p) (low : p < 8) where
-      its-list : shown (viewOf s 17 p) ≡ record { listed = st .listed; len = st .len; start = st .start }
-      its-list = sym (ap (viewIn s 17) found) ∙ seen .list
-
       its-listed : viewOf s 17 p .listed ≡ st .listed
-      its-listed = sym (shown-listed (viewOf s 17 p)) ∙ ap (λ (v : View). v .listed) its-list
-
-      its-touched : isTouched s p ≡ st .touched
-      its-touched = touched-staged d s o p low ∙ sym (ap (touchedIn s) found) ∙ seen .touched
-
-      its-open : handleNumber s p ≢ 0 → SeenOpen s p st
-      its-open held = seen .opened p found (sym (seen .live) ∙ live-at s n p found held)
+      its-listed = sym (shown-keeps (viewOf s 17 p)) ∙ ap (λ (v : View). v .listed) (list-at d s n st seen p found)
 
       -- the length that was staged
       touched-len : isTouched s p ≡ true → staged-len ≡ stagedOf s p .len
@@ -107,15 +94,15 @@ module _ (d s : List ℕ) (o : Orderly d s) (k : ℕ) (u : List ℕ) (c : DropLe
         let all = rw (found-name s namesAt n p found) at (c .files p l) in
         decide (isTouched s p)
         (λ (is : isTouched s p ≡ true).
-        let now : st .touched ≡ true = sym (its-touched p found l) ∙ is in
+        let now : st .touched ≡ true = sym (touched-at d s n st seen p found o) ∙ is in
         let yes : st .listed ≡ true = sym (its-listed p found l) ∙ stays is in
         all ∙ rw (sym (touched-row s p) ∙ is, seen-listed d s o k u c p l ∙ stays is, now, yes, seen .files))
         (λ (is : isTouched s p ≡ false).
-        let now : st .touched ≡ false = sym (its-touched p found l) ∙ is in
+        let now : st .touched ≡ false = sym (touched-at d s n st seen p found o) ∙ is in
         all ∙ rw (sym (touched-row s p) ∙ is, now, seen .files)))
         (λ p found l is unlisted.
         let all = rw (found-name s namesAt n p found) at (c .files p l) in
-        let now : st .touched ≡ true = sym (its-touched p found l) ∙ is in
+        let now : st .touched ≡ true = sym (touched-at d s n st seen p found o) ∙ is in
         let none : st .listed ≡ false = sym (its-listed p found l) ∙ unlisted in
         all ∙ rw (sym (touched-row s p) ∙ is, seen-listed d s o k u c p l ∙ unlisted, now, none, seen .files))
 
@@ -134,17 +121,6 @@ module _ (d s : List ℕ) (o : Orderly d s) (k : ℕ) (u : List ℕ) (c : DropLe
         (λ p found l is unlisted.
         ap (liveIn u) (place-gone d s o k u c n some p found is unlisted) ∙ sym (ap (λ (b : Bool). st .live && b) (sym (its-listed p found l) ∙ unlisted) ∙ and-false (st .live)))
 
-    touched-none : touchedIn u (placeOf u n) ≡ false
-    touched-none = by (placeOf u n) refl
-      where
-        by : (f : Found) → placeOf u n ≡ f → touchedIn u f ≡ false
-        by (At p) found = ap (λ (r : Staged). r .touched) (unstaged d s o k u c p (found-low u namesAt n p found))
-        by Nothing found = refl
-
-    open-same : (t : ℕ) → t < 16 → isOpenAt u t ≡ isOpenAt s t
-    unfolding isOpenAt
-    open-same t low = rw (c .readers t low)
-
     readers-same : (has : Reader → Bool) → countOpen has u (placeOf u n) ≡ countOpen has s tape
     unfolding countOpen
     readers-same has =
@@ -153,23 +129,20 @@ module _ (d s : List ℕ) (o : Orderly d s) (k : ℕ) (u : List ℕ) (c : DropLe
         let l : t < 16 = omega arith in
         decide (isOpenAt s t)
         (λ (is : isOpenAt s t ≡ true).
-        rw (open-same t l, is, c .readers t l, view-same d s o k u c n some t (omega arith) (o .views t l is)))
-        (λ (is : isOpenAt s t ≡ false). rw (open-same t l, is)))
+        rw (open-row s u t (c .readers t l), is, c .readers t l, view-same d s o k u c n some t (omega arith) (o .views t l is)))
+        (λ (is : isOpenAt s t ≡ false). rw (open-row s u t (c .readers t l), is)))
 
     -- the tape is open now: so it was, in this place, and stays
     module _ (p : ℕ) (now : placeOf u n ≡ At p) where
       was : (tape ≡ At p) × Stays s p
       was =
           cases ((tape ≡ At p) × Stays s p)
-          (λ found. absurd (nowhere (sym now ∙ place-none d s o k u c n some found)))
+          (λ found. absurd (no-place (sym (place-none d s o k u c n some found) ∙ now)))
           (λ q found l stays.
           let there : At q ≡ At p = sym (place-stays d s o k u c n some q found stays) ∙ now in
           let same : q ≡ p = cc in
           rw (← same) (found, stays))
-          (λ q found l is unlisted. absurd (nowhere (sym now ∙ place-gone d s o k u c n some q found is unlisted)))
-        where
-          nowhere : At p ≡ Nothing → ⊥
-          nowhere e = let z : _≡_ {A = ℕ} 0 1 = cc in omega arith
+          (λ q found l is unlisted. absurd (no-place (sym (place-gone d s o k u c n some q found is unlisted) ∙ now)))
 
       low : p < 8
       low = found-low u namesAt n p now
@@ -184,27 +157,22 @@ module _ (d s : List ℕ) (o : Orderly d s) (k : ℕ) (u : List ℕ) (c : DropLe
           decide (isTouched s p)
           (λ (is : isTouched s p ≡ true).
           let yes : st .listed ≡ true = sym (its-listed p found low) ∙ stays is in
-          let its : st .touched ≡ true = sym (its-touched p found low) ∙ is in
+          let its : st .touched ≡ true = sym (touched-at d s n st seen p found o) ∙ is in
           let touched : stagedOf s p .touched ≡ true = sym (touched-staged d s o p low) ∙ is in (
             ring ∙ rw (sym (touched-row s p) ∙ is, seen-listed d s o k u c p low ∙ stays is, its, yes, touched-len p found low is, o₁ .base touched yes, o₁ .ring),
             c .caches p low ∙ rw (its, yes, o₁ .cache),
             rw (its, yes),
           ))
           (λ (is : isTouched s p ≡ false).
-          let its : st .touched ≡ false = sym (its-touched p found low) ∙ is in
+          let its : st .touched ≡ false = sym (touched-at d s n st seen p found o) ∙ is in
           let untouched-row : stagedOf s p .touched ≡ false = sym (touched-staged d s o p low) ∙ is in (
             ring ∙ rw (sym (touched-row s p) ∙ is, its, o₁ .ring),
             c .caches p low ∙ rw (its, o₁ .cache),
             rw (its, ← o₁ .unwritten, untouched-row),
           ))
 
-      size-same : fileSize u p ≡ fileSize s p
-      unfolding handleOf
-      size-same = ap (λ (h : Handle). h .«file_size») (stays-handle d s o k u c p low (was .1))
-
-      unwritten-none : touchedAs u p .unwritten ≡ 0
-      unfolding touchedAs
-      unwritten-none = rw (unstaged d s o k u c p low)
+    untouched-now : (p : ℕ) → p < 8 → stagedOf u p .touched ≡ false
+    untouched-now p l = ap (λ (r : Staged). r .touched) (unstaged d s o k u c p l)
 
     drop-seen : Seen d u n (step (drop′ k) st .store)
     drop-seen =
@@ -216,7 +184,7 @@ module _ (d s : List ℕ) (o : Orderly d s) (k : ℕ) (u : List ℕ) (c : DropLe
           list = view-same d s o k u c n some 17 (omega arith) (λ p l e. e) ∙ seen .list;
           readers = λ has. readers-same has ∙ seen .readers has;
           writer = rw (c .shut);
-          touched = touched-none;
+          touched = untouched-rows u (placeOf u n) (λ p now. untouched-now p (low p now));
           live = live-now;
           files = files-now;
           opened = λ p now live.
@@ -225,9 +193,9 @@ module _ (d s : List ℕ) (o : Orderly d s) (k : ℕ) (u : List ℕ) (c : DropLe
               record {
                 ring = r .0;
                 cache = r .1;
-                size = size-same p now ∙ seen .opened p (was p now .0) was-live .size;
-                unwritten = unwritten-none p now ∙ r .2;
-                base = λ touched. absurd (true≢false (sym touched ∙ ap (λ (x : Staged). x .touched) (unstaged d s o k u c p (low p now))));
+                size = size-row s u p (stays-handle d s o k u c p (low p now) (was p now .1)) ∙ seen .opened p (was p now .0) was-live .size;
+                unwritten = untouched-unwritten u p (untouched-now p (low p now)) ∙ r .2;
+                base = λ touched. absurd (true≢false (sym touched ∙ untouched-now p (low p now)));
               };
         })
 
@@ -245,17 +213,13 @@ module _ (d s : List ℕ) (o : Orderly d s) (k : ℕ) (u : List ℕ) (c : DropLe
         let number : handleNumber s p ≡ handle = sym (ap (handleIn s) found) ∙ its .number in
         ap (handleIn u) (place-stays d s o k u c n some p found stays)
         ∙ stays-number d s o k u c p l stays
-        ∙ sym (ap (λ (f : Found). cond (viewIn s 17 f .listed) handle 0) found ∙ rw (shown-listed (viewOf s 17 p))
+        ∙ sym (ap (λ (f : Found). cond (viewIn s 17 f .listed) handle 0) found ∙ rw (shown-keeps (viewOf s 17 p))
         (equal (handleNumber s p) 0
         (λ (e : handleNumber s p ≡ 0). rw (e, ← number) (picked (λ (x : ℕ). x ≡ 0) (viewOf s 17 p .listed) (handleNumber s p) 0 (λ yes. e) (λ none. refl)))
         (λ (held : handleNumber s p ≢ 0). rw (stays-listed d s o k u c p l stays held) (sym number)))))
         (λ p found l is unlisted.
         ap (handleIn u) (place-gone d s o k u c n some p found is unlisted)
-        ∙ sym (ap (λ (f : Found). cond (viewIn s 17 f .listed) handle 0) found ∙ rw (shown-listed (viewOf s 17 p), unlisted)))
-
-    entry-same : (p : ℕ) → p < 8 → Stays s p → entrySize u p ≡ entrySize s p
-    unfolding handleOf
-    entry-same p l stays = ap (λ (h : Handle). h .entry) (stays-handle d s o k u c p l stays)
+        ∙ sym (ap (λ (f : Found). cond (viewIn s 17 f .listed) handle 0) found ∙ rw (shown-keeps (viewOf s 17 p), unlisted)))
 
     handled-then : Handled u n (handle-then handle) entry
     handled-then =
@@ -267,11 +231,11 @@ module _ (d s : List ℕ) (o : Orderly d s) (k : ℕ) (u : List ℕ) (c : DropLe
               (λ p found l stays.
               let open-before : handle ≢ 0 = λ z. open-now (rw z (picked (λ (x : ℕ). x ≡ 0) (viewIn s 17 tape .listed) 0 0 (λ yes. refl) (λ none. refl))) in
               ap (entryIn u) (place-stays d s o k u c n some p found stays)
-              ∙ entry-same p l stays
+              ∙ entry-row s u p (stays-handle d s o k u c p l stays)
               ∙ sym (ap (entryIn s) found)
               ∙ its .size open-before)
               (λ p found l is unlisted.
-              absurd (open-now (ap (λ (f : Found). cond (viewIn s 17 f .listed) handle 0) found ∙ rw (shown-listed (viewOf s 17 p), unlisted))));
+              absurd (open-now (ap (λ (f : Found). cond (viewIn s 17 f .listed) handle 0) found ∙ rw (shown-keeps (viewOf s 17 p), unlisted))));
         }
 
 -- ---- the laws

@@ -6,10 +6,8 @@ use mathlib.Core.Bool.{Bool, true, false, true≢false, not, _&&_}
 use mathlib.Core.List.{List}
 use Prim.Native.Nat.{ℕ, _≤_, _<_}
 use native.Mathlib.Omega.{arith}
-use borrow.Author.Tests.{eq-eqb, ne-eqb}
 use lib.Dec.{eqb}
-use lib.ListN.{length}
-use Rattle.octets.specs.Cases.{equal, order}
+use Rattle.octets.specs.Cases.{equal}
 use Rattle.octets.specs.Only.{OnlyIn}
 use Rattle.octets.specs.Sweep.{sweep, sweep-keeps, Rowwise, sweep-row}
 use Rattle.octets.specs.declared.Found.{Found}
@@ -17,7 +15,7 @@ use Rattle.octets.specs.declared.Found.the-variants.{At, Nothing}
 use Rattle.layout.specs.Disk.{directories}
 use Rattle.layout.specs.Names.{name, findName}
 use Rattle.layout.specs.NamesLaws.{name-only}
-use Rattle.layout.specs.Session.{namesAt, handleNumber, Begun}
+use Rattle.layout.specs.Session.{namesAt, Begun}
 use Rattle.ring_buffer.specs.declared.bookkeeping.RingBuffer.{RingBuffer}
 use Rattle.components.specs.Files.{Files}
 use Rattle.disk.specs.Meaning.{diskOf}
@@ -42,6 +40,7 @@ use Rattle.joins.specs.FilesAt.{filesAt}
 use Rattle.seen.specs.Seen.{filesIn, filesFor}
 use Rattle.seen.specs.Orderly.{Orderly}
 use Rattle.seen.specs.Places.{found-name}
+pub use Rattle.seen.specs.Rows.{open-named, touched-staged}
 
 -- ---- a tape's row
 
@@ -125,19 +124,6 @@ files-apart d t v wanted place found other n apart = by (findName d directories 
 pub record Apart (d s : List ℕ) : Type 0 where
   pub distinct : (i j : ℕ) → i < 8 → j < 8 → isTouched s i ≡ true → j ≢ i → name s namesAt i ≢ name s namesAt j
   pub folder : (i : ℕ) → i < 8 → isTouched s i ≡ true → isFound (directoryOf d s i) ≡ true
-
-module _ (d s : List ℕ) (o : Orderly d s) (p : ℕ) (low : p < 8) where
-  -- an open tape has a name
-  pub open-named : handleNumber s p ≢ 0 → 0 < length (name s namesAt p)
-  open-named held = order 0 (length (name s namesAt p)) (λ l. l) (λ (l : length (name s namesAt p) ≤ 0). absurd (held (o .free-shut p low (omega arith))))
-
-  -- what is staged is staged of an open tape
-  pub touched-staged : isTouched s p ≡ stagedOf s p .touched
-  unfolding isTouched
-  touched-staged =
-      equal (handleNumber s p) 0
-      (λ (e : handleNumber s p ≡ 0). rw (eq-eqb (handleNumber s p) 0 e, o .shut-untouched p low e))
-      (λ (apart : handleNumber s p ≢ 0). rw (ne-eqb (handleNumber s p) 0 apart))
 
 pub orderly-apart : (d s : List ℕ) → Orderly d s → Apart d s
 orderly-apart d s o =

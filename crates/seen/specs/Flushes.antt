@@ -3,19 +3,19 @@
 -- nothing.
 use mathlib.Core.Path.{_≡_, refl, sym, ap, _∙_}
 use mathlib.Core.Logic.{_≢_}
-use mathlib.Core.Bool.{Bool, true, false}
+use mathlib.Core.Bool.{true, false}
 use mathlib.Core.List.{List}
 use Prim.Native.Nat.{ℕ, zero, suc, _+_, _-_, _≤_, _<_}
 use native.Mathlib.Omega.{arith}
-use borrow.Author.Tests.{lt-ltb, ne-eqb, ltb-false}
-use Rattle.octets.specs.Cases.{decide, order}
+use borrow.Author.Tests.{ne-eqb, ltb-false}
+use Rattle.octets.specs.Cases.{decide}
 use Rattle.octets.specs.declared.Found.{Found}
 use Rattle.octets.specs.declared.Found.the-variants.{At, Nothing}
-use Rattle.components.specs.Pieces.{fileOf, leftIn}
-use Rattle.components.specs.PiecesLaws.{left-some, piece-number, next-number, file-mono}
+use Rattle.components.specs.Pieces.{fileOf}
+use Rattle.components.specs.PiecesLaws.{file-mono}
 use Rattle.components.specs.Files.{Files}
 use Rattle.components.specs.Slots.{lackingFrom, covered}
-use Rattle.components.specs.SlotsLaws.{lacking-split, lacking-same, covered-none}
+use Rattle.components.specs.SlotsLaws.{lacking-same}
 use Rattle.layout.specs.Disk.{slots}
 use Rattle.layout.specs.Names.{name}
 use Rattle.layout.specs.Session.{namesAt, fileSize}
@@ -36,52 +36,10 @@ use Rattle.ending.specs.StepLaws as Step
 use Rattle.ending.specs.StepLaws.{Kept, touched-held, staged-pending, staged-fits, kept-flushTape}
 use Rattle.held.specs.Held.{flush}
 use Rattle.joins.specs.FilesAt.{filesAt, heldAt, Once}
+use Rattle.joins.specs.Ranges.{lacking-last, last-part}
 use Rattle.joins.specs.Writes.{Grown}
 use Rattle.joins.specs.Sends.{Lacks, flushed-files}
 use Rattle.seen.specs.Turns.{Turns, turns-end, turns-other, turns-own, touchedPlace, place-touched, place-directory, touched-place, touched-row, folder-kept, directory-kept, touched-kept, Apart, kept-none, kept-then}
-
--- ---- the numbers of the last part of a run are among those of the run
-
-covered-some : (fs base end : ℕ) → base < end → covered fs base end ≡ fileOf fs (end - 1) - fileOf fs base + 1
-unfolding covered
-covered-some fs base end h = rw (lt-ltb base end h)
-
-module _ (fs : ℕ) (z : 0 < fs) where
-  -- the next offset is in the same file or in the next
-  next-near : (o : ℕ) → fileOf fs (o + 1) ≤ fileOf fs o + 1
-  next-near o =
-      order 1 (leftIn fs o)
-      (λ (l : 1 < leftIn fs o). omega (arith, piece-number fs z o 1 l))
-      (λ (l : leftIn fs o ≤ 1).
-      let one : leftIn fs o ≡ 1 = omega (arith, left-some fs z o) in
-      omega (arith, ap (λ (x : ℕ). fileOf fs (o + x)) (sym one) ∙ next-number fs z o))
-
-  last-part : (base mid end : ℕ) → base ≤ mid → mid ≤ end → fileOf fs mid + covered fs mid end ≤ fileOf fs base + covered fs base end
-  last-part base mid end l m =
-      order base end
-      (λ (some : base < end).
-      order mid end
-      (λ (h : mid < end).
-      omega (arith, covered-some fs base end some, covered-some fs mid end h, file-mono fs z base (end - 1) (omega arith), file-mono fs z mid (end - 1) (omega arith)))
-      (λ (h : end ≤ mid).
-      let same : mid ≡ end - 1 + 1 = omega arith in
-      omega (arith, covered-none fs mid end h, covered-some fs base end some, file-mono fs z base (end - 1) (omega arith), next-near (end - 1), ap (λ (x : ℕ). fileOf fs x) same)))
-      (λ (h : end ≤ base).
-      let same : mid ≡ base = omega arith in
-      omega (arith, covered-none fs mid end (omega arith), ap (λ (x : ℕ). fileOf fs x) same))
-
--- fewer numbers lack no more
-lacking-within : (there : ℕ → Bool) (k e j c : ℕ) → k ≤ j → j + c ≤ k + e → lackingFrom there j c ≤ lackingFrom there k e
-lacking-within there k e j c l m =
-    let x = j - k in
-    let y = k + e - (j + c) in
-    let whole : x + (c + y) ≡ e = omega arith in
-    let from : k + x ≡ j = omega arith in
-    omega (
-      arith,
-      ap (λ (n : ℕ). lackingFrom there k n) (sym whole) ∙ lacking-split there k x (c + y),
-      ap (λ (n : ℕ). lackingFrom there n (c + y)) from ∙ lacking-split there j c y,
-    )
 
 -- ---- what a touched tape lacks
 
@@ -128,16 +86,13 @@ module _ (a : Areas) (start : Step.Whole a) (apart : Apart (a .disk) (a .session
     same-size : fileSize (b .session) p ≡ fileSize (a .session) p
     same-size = fileSize-kept (a .session) (b .session) (at .kept .only) p low
 
-    same-directory : directoryOf (b .disk) (b .session) p ≡ directoryOf (a .disk) (a .session) p
-    same-directory = directory-kept a b start (at .kept) p low
-
     turn-none : owner p ≡ Nothing → flushTape p b ≡ b
     unfolding flushTape
     turn-none e =
         decide (isTouched (a .session) p)
         (λ (t : isTouched (a .session) p ≡ true).
         let none : directoryOf (a .disk) (a .session) p ≡ Nothing = rw t at e in
-        rw (touched-kept a b start (at .kept) p low ∙ t, same-directory ∙ none))
+        rw (touched-kept a b start (at .kept) p low ∙ t, directory-kept a b start (at .kept) p low ∙ none))
         (λ (t : isTouched (a .session) p ≡ false). rw (touched-kept a b start (at .kept) p low ∙ t))
 
     module _ (place : ℕ) (e : owner p ≡ At place) where
@@ -161,7 +116,7 @@ module _ (a : Areas) (start : Step.Whole a) (apart : Apart (a .disk) (a .session
 
       turn-at : flushTape p b ≡ flushed b place p row
       unfolding flushTape
-      turn-at = rw (also-touched, same-directory ∙ found, same-row)
+      turn-at = rw (also-touched, directory-kept a b start (at .kept) p low ∙ found, same-row)
 
       some : 0 < fs
       some = Step.touched-size (a .session) p (start .begun) low touched
@@ -201,8 +156,7 @@ module _ (a : Areas) (start : Step.Whole a) (apart : Apart (a .disk) (a .session
                   arith,
                   turn-room,
                   own-lacking,
-                  lacking-within (onDisk (b .disk) place) (fileOf fs (lowOf row)) (covered fs (lowOf row) (row .len)) (fileOf fs (unwrittenFrom row))
-                      (covered fs (unwrittenFrom row) (row .len)) first-above last-below,
+                  lacking-last fs some (onDisk (b .disk) place) (lowOf row) (unwrittenFrom row) (row .len) (omega arith) (omega arith),
                 ));
           }
 

@@ -1,29 +1,23 @@
 -- A call that leaves the session's head, names, views, transactions and handles, and the disk's directories, left and right: the areas are in order behind it
 -- where they keep their layout rules and the staged records are in order. Assumes nothing.
-use mathlib.Core.Path.{_≡_, refl, sym, ap, _∙_}
+use mathlib.Core.Path.{_≡_, sym, ap, _∙_}
 use mathlib.Core.Logic.{_≢_}
-use mathlib.Core.Bool.{Bool, true, false, true≢false, _&&_}
+use mathlib.Core.Bool.{Bool, true, false, true≢false}
 use mathlib.Core.List.{List}
 use Prim.Native.Nat.{ℕ, _<_}
 use native.Mathlib.Omega.{arith}
 use lib.ListN.{length}
 use Rattle.octets.specs.Cases.{equal}
-use Rattle.octets.specs.First.{count-same}
 use Rattle.octets.specs.Number.{Bytes}
-use Rattle.octets.specs.declared.Found.{Found}
-use Rattle.octets.specs.declared.Found.the-variants.{At, Nothing}
-use Rattle.metadata.specs.Choice.{chosenEpoch, chosenList}
 use Rattle.metadata.specs.declared.choice.Side.{Side}
 use Rattle.metadata.specs.declared.choice.Side.the-variants.{Left, Right}
 use Rattle.layout.specs.Names.{name}
 use Rattle.layout.specs.Disk.{directories}
 use Rattle.layout.specs.Disk as D
-use Rattle.layout.specs.Session.{namesAt, handleNumber, entrySize, fileSize, Begun}
+use Rattle.layout.specs.Session.{namesAt, handleNumber, Begun}
 use Rattle.disk.specs.Steps.{sideBytes}
 use Rattle.session.specs.declared.head.Head.{Head}
-use Rattle.session.specs.declared.tape_rows.Handle.{Handle}
 use Rattle.session.specs.Rows.{headOf, viewOf, transactionOf, handleOf, stagedOf}
-use Rattle.beginning.specs.Sessions.{theRecord}
 use Rattle.beginning.specs.Transactions.{isOpenAt}
 use Rattle.staging.specs.Seeing.{directoryOf}
 use Rattle.restarts.specs.Level.{level-same}
@@ -31,9 +25,12 @@ use Rattle.touches.specs.Parts.{Stays, belowTapes, handles, belowFiles}
 use Rattle.touches.specs.Rows.{row-stays, numAt-stays, head-stays, view-stays, transaction-stays, handle-stays, name-stays, side-stays}
 use Rattle.joins.specs.FilesAt.{Once}
 use Rattle.lives.specs.Life.{Reader}
-use Rattle.seen.specs.Seen.{placeOf, shown, viewIn, readerIn, liveIn, handleIn, entryIn, countOpen, Handled}
-use Rattle.seen.specs.Orderly.{Recorded, Orderly}
+use Rattle.seen.specs.Seen.{placeOf, viewIn, liveIn, countOpen, Handled}
+use Rattle.seen.specs.Orderly.{Orderly}
 use Rattle.seen.specs.Places.{found-low, find-same}
+pub use Rattle.seen.specs.Rows.{number-row, entry-row, size-row, open-row}
+use Rattle.seen.specs.Lists.{recorded-same}
+use Rattle.seen.specs.Rows.{view-rows, live-rows, count-rows, handled-rows}
 
 -- what is left as it was
 pub record Frame (d s e u : List ℕ) : Type 0 where
@@ -61,22 +58,6 @@ pub record StagedInOrder (s u : List ℕ) : Type 0 where
 
 -- ---- what follows of rows that are as they were
 
-pub number-row : (s u : List ℕ) (p : ℕ) → handleOf u p ≡ handleOf s p → handleNumber u p ≡ handleNumber s p
-unfolding handleOf
-number-row s u p e = ap (λ (h : Handle). h .number) e
-
-pub entry-row : (s u : List ℕ) (p : ℕ) → handleOf u p ≡ handleOf s p → entrySize u p ≡ entrySize s p
-unfolding handleOf
-entry-row s u p e = ap (λ (h : Handle). h .entry) e
-
-pub size-row : (s u : List ℕ) (p : ℕ) → handleOf u p ≡ handleOf s p → fileSize u p ≡ fileSize s p
-unfolding handleOf
-size-row s u p e = ap (λ (h : Handle). h .«file_size») e
-
-pub open-row : (s u : List ℕ) (t : ℕ) → transactionOf u t ≡ transactionOf s t → isOpenAt u t ≡ isOpenAt s t
-unfolding isOpenAt
-open-row s u t e = rw e
-
 module _ (d s e u : List ℕ) (f : Frame d s e u) where
   pub frame-place : (n : List ℕ) → placeOf u n ≡ placeOf s n
   frame-place n = find-same s u namesAt namesAt n (f .names)
@@ -91,51 +72,17 @@ module _ (d s e u : List ℕ) (f : Frame d s e u) where
   frame-open t low = open-row s u t (f .transactions t low)
 
   pub frame-view : (w : ℕ) → w < 18 → (n : List ℕ) → viewIn u w (placeOf u n) ≡ viewIn s w (placeOf s n)
-  frame-view w low n = ap (viewIn u w) (frame-place n) ∙ by (placeOf s n) refl
-    where
-      by : (found : Found) → placeOf s n ≡ found → viewIn u w found ≡ viewIn s w found
-      by (At p) at = ap shown (f .views w p low (found-low s namesAt n p at))
-      by Nothing at = refl
+  frame-view w low n = view-rows s u n (frame-place n) w (λ p at. f .views w p low (found-low s namesAt n p at))
 
   pub frame-live : (n : List ℕ) → liveIn u (placeOf u n) ≡ liveIn s (placeOf s n)
-  frame-live n = ap (liveIn u) (frame-place n) ∙ by (placeOf s n) refl
-    where
-      by : (found : Found) → placeOf s n ≡ found → liveIn u found ≡ liveIn s found
-      by (At p) at = rw (frame-number p (found-low s namesAt n p at))
-      by Nothing at = refl
+  frame-live n = live-rows s u n (frame-place n) (λ p at. f .handles p (found-low s namesAt n p at))
 
   pub frame-readers : (has : Reader → Bool) (n : List ℕ) → countOpen has u (placeOf u n) ≡ countOpen has s (placeOf s n)
-  unfolding countOpen
   frame-readers has n =
-      count-same (λ t. isOpenAt u t && has (readerIn u (placeOf u n) t)) (λ t. isOpenAt s t && has (readerIn s (placeOf s n) t)) 16 0
-      (λ t a b. rw (frame-open t (omega arith), f .transactions t (omega arith), frame-view t (omega arith) n))
+      count-rows s u (placeOf s n) (placeOf u n) (λ t l. f .transactions t (omega arith)) (λ t l. frame-view t (omega arith) n) has
 
   pub frame-handled : (n : List ℕ) (h entry : ℕ) → Handled s n h entry → Handled u n h entry
-  frame-handled n h entry its =
-      record {
-        number = ap (handleIn u) (frame-place n) ∙ number (placeOf s n) refl ∙ its .number;
-        size = λ some. ap (entryIn u) (frame-place n) ∙ size (placeOf s n) refl ∙ its .size some;
-      }
-    where
-      number : (found : Found) → placeOf s n ≡ found → handleIn u found ≡ handleIn s found
-      number (At p) at = frame-number p (found-low s namesAt n p at)
-      number Nothing at = refl
-
-      size : (found : Found) → placeOf s n ≡ found → entryIn u found ≡ entryIn s found
-      size (At p) at = entry-row s u p (f .handles p (found-low s namesAt n p at))
-      size Nothing at = refl
-
-  frame-record : theRecord e ≡ theRecord d
-  frame-record = rw (f .sides Left, f .sides Right)
-
-  frame-recorded : Recorded d s → Recorded e u
-  frame-recorded r =
-      record {
-        epoch = ap chosenEpoch frame-record ∙ r .epoch ∙ sym (ap (λ (h : Head). h .epoch) (f .head));
-        list = r .list;
-        read = ap chosenList frame-record ∙ r .read;
-        says = λ n some. r .says n some ∙ sym (frame-view 17 (omega arith) n);
-      }
+  frame-handled n = handled-rows s u n (frame-place n) (λ p at. f .handles p (found-low s namesAt n p at))
 
   pub orderly-frame : Rules e u → StagedInOrder s u → Orderly d s → Orderly e u
   orderly-frame rules staged o =
@@ -168,7 +115,7 @@ module _ (d s e u : List ℕ) (f : Frame d s e u) where
             rw (f .transactions 16 (omega arith)) (o .made-append p lp (λ z. some (number p lp ∙ z)) (rw (f .views 17 p (omega arith) lp) at made));
         made-touched = λ p lp some made. staged .made p lp (λ z. some (number p lp ∙ z)) (rw (f .views 17 p (omega arith) lp) at made);
         folder = λ p lp some. rw (frame-folder p lp) (o .folder p lp (λ z. some (number p lp ∙ z)));
-        recorded = frame-recorded (o .recorded);
+        recorded = recorded-same d s e u (f .sides) (ap (λ (h : Head). h .epoch) (f .head)) (λ n some. frame-view 17 (omega arith) n) (o .recorded);
         level = level-same d s e u (ap (λ (h : Head). h .epoch) (f .head)) (ap (λ (h : Head). h .side) (f .head)) (f .sides) (o .level);
       }
 

@@ -2,19 +2,17 @@
 -- transactions and what is staged. Assumes nothing.
 use mathlib.Core.Path.{_≡_, refl, sym, ap, _∙_}
 use mathlib.Core.Logic.{_≢_}
-use mathlib.Core.Bool.{Bool, true, false, not}
+use mathlib.Core.Bool.{Bool, true, false}
 use mathlib.Core.List.{List}
 use Prim.Native.Nat.{ℕ, _≤_, _<_}
 use native.Mathlib.Omega.{arith}
-use lib.Dec.{eqb}
 use Rattle.octets.specs.Number.{Bytes}
 use Rattle.octets.specs.declared.Found.{Found}
 use Rattle.octets.specs.declared.Found.the-variants.{At, Nothing}
 use Rattle.layout.specs.Names.{name, findName}
 use Rattle.layout.specs.Disk.{directories}
-use Rattle.layout.specs.Session.{namesAt, handleNumber, entrySize, fileSize, Begun}
+use Rattle.layout.specs.Session.{namesAt, handleNumber, Begun}
 use Rattle.session.specs.declared.head.Head.{Head}
-use Rattle.session.specs.declared.tape_rows.Handle.{Handle}
 use Rattle.session.specs.declared.tape_rows.Staged.{Staged}
 use Rattle.session.specs.declared.tracking.Tracking.{Tracking}
 use Rattle.session.specs.declared.transactions.Transaction.{Transaction}
@@ -27,9 +25,12 @@ use Rattle.rolling_tape.specs.Files.{filesOf}
 use Rattle.beginning.specs.Transactions.{isOpenAt}
 use Rattle.staging.specs.Seeing.{touchedAs, isAppend}
 use Rattle.lives.specs.Life.{Answer, Reader, Writer, Store, then}
-use Rattle.seen.specs.Seen.{placeOf, shown, viewIn, writerIn, touchedIn, liveIn, handleIn, entryIn, filesIn, countIn, countOpen, Seen, Handled}
+use Rattle.seen.specs.Seen.{placeOf, viewIn, writerIn, touchedIn, filesIn, countIn, countOpen, Seen, Handled}
 use Rattle.seen.specs.Orderly.{Orderly}
 use Rattle.seen.specs.Places.{found-low, find-same}
+pub use Rattle.seen.specs.Rows.{number-row as handle-number}
+use Rattle.seen.specs.Lists.{recorded-as}
+use Rattle.seen.specs.Rows.{size-row, view-rows, live-rows, handled-rows}
 
 pub record Leaves (s u : List ℕ) : Type 0 where
   pub epoch : headOf u .epoch ≡ headOf s .epoch
@@ -79,20 +80,6 @@ module _ (s u : List ℕ) (h : Head) (views : ℕ → ℕ → View) (places : �
         tracking = ap (λ (m : Session). m .tracking) means;
       }
 
--- ---- what is read of a handle's row
-
-pub handle-number : (s u : List ℕ) (p : ℕ) → handleOf u p ≡ handleOf s p → handleNumber u p ≡ handleNumber s p
-unfolding handleOf
-handle-number s u p e = ap (λ (h : Handle). h .number) e
-
-handle-entry : (s u : List ℕ) (p : ℕ) → handleOf u p ≡ handleOf s p → entrySize u p ≡ entrySize s p
-unfolding handleOf
-handle-entry s u p e = ap (λ (h : Handle). h .entry) e
-
-handle-size : (s u : List ℕ) (p : ℕ) → handleOf u p ≡ handleOf s p → fileSize u p ≡ fileSize s p
-unfolding handleOf
-handle-size s u p e = ap (λ (h : Handle). h .«file_size») e
-
 -- what is staged of an open tape, in place p
 pub record StagedFor (u : List ℕ) (st : Store) (p : ℕ) : Type 0 where
   pub unwritten : touchedAs u p .unwritten ≡ st .held .unwritten
@@ -104,35 +91,15 @@ module _ (s u : List ℕ) (left : Leaves s u) (n : List ℕ) where
   pub left-place : placeOf u n ≡ placeOf s n
   left-place = find-same s u namesAt namesAt n (left .names)
 
-  at-list : (found : Found) → placeOf s n ≡ found → viewIn u 17 found ≡ viewIn s 17 found
-  at-list (At p) e = ap shown (left .list p (found-low s namesAt n p e))
-  at-list Nothing e = refl
-
-  at-live : (found : Found) → placeOf s n ≡ found → liveIn u found ≡ liveIn s found
-  at-live (At p) e = ap (λ (x : ℕ). not (eqb x 0)) (handle-number s u p (left .handles p (found-low s namesAt n p e)))
-  at-live Nothing e = refl
-
-  at-handle : (found : Found) → placeOf s n ≡ found → handleIn u found ≡ handleIn s found
-  at-handle (At p) e = handle-number s u p (left .handles p (found-low s namesAt n p e))
-  at-handle Nothing e = refl
-
-  at-entry : (found : Found) → placeOf s n ≡ found → entryIn u found ≡ entryIn s found
-  at-entry (At p) e = handle-entry s u p (left .handles p (found-low s namesAt n p e))
-  at-entry Nothing e = refl
-
   pub left-list : viewIn u 17 (placeOf u n) ≡ viewIn s 17 (placeOf s n)
-  left-list = ap (viewIn u 17) left-place ∙ at-list (placeOf s n) refl
+  left-list = view-rows s u n left-place 17 (λ p at. left .list p (found-low s namesAt n p at))
 
   pub left-files : (d : List ℕ) (found : Found) → filesIn d u found ≡ filesIn d s found
   left-files d (At place) = ap (λ (rows : ℕ → Tracking). filesOf (diskOf d) rows place) (left .tracking)
   left-files d Nothing = refl
 
   pub left-handled : (handle entry : ℕ) → Handled s n handle entry → Handled u n handle entry
-  left-handled handle entry h =
-      record {
-        number = ap (handleIn u) left-place ∙ at-handle (placeOf s n) refl ∙ h .number;
-        size = λ some. ap (entryIn u) left-place ∙ at-entry (placeOf s n) refl ∙ h .size some;
-      }
+  left-handled = handled-rows s u n left-place (λ p at. left .handles p (found-low s namesAt n p at))
 
   pub seen-then : (d : List ℕ) (st : Store) (a : Answer) (last : ℕ) (rs : List Reader) (w : Writer) (touched : Bool) → Seen d s n st
       → headOf u .«last_transaction» ≡ last
@@ -150,7 +117,7 @@ module _ (s u : List ℕ) (left : Leaves s u) (n : List ℕ) where
         readers = λ has. ap (countOpen has u) left-place ∙ readers has;
         writer = ap (writerIn u) left-place ∙ writer;
         touched = ap (touchedIn u) left-place ∙ touches;
-        live = ap (liveIn u) left-place ∙ at-live (placeOf s n) refl ∙ seen .live;
+        live = live-rows s u n left-place (λ p at. left .handles p (found-low s namesAt n p at)) ∙ seen .live;
         files = left-files d (findName d directories n) ∙ seen .files;
         opened = λ p found live.
             let there : placeOf s n ≡ At p = sym left-place ∙ found in
@@ -160,7 +127,7 @@ module _ (s u : List ℕ) (left : Leaves s u) (n : List ℕ) where
             record {
               ring = left .rings p low ∙ o .ring;
               cache = left .caches p low ∙ o .cache;
-              size = handle-size s u p (left .handles p low) ∙ o .size;
+              size = size-row s u p (left .handles p low) ∙ o .size;
               unwritten = now .unwritten;
               base = now .base;
             };
@@ -168,17 +135,21 @@ module _ (s u : List ℕ) (left : Leaves s u) (n : List ℕ) where
 
 -- ---- what stays in order
 
+-- of what is staged: it is staged of open tapes and by the writer, and the writer has staged what it made
+pub record Staying (u : List ℕ) : Type 0 where
+  pub shut-untouched : (p : ℕ) → p < 8 → handleNumber u p ≡ 0 → stagedOf u p .touched ≡ false
+  pub idle-untouched : isOpenAt u 16 ≡ false → (p : ℕ) → p < 8 → stagedOf u p .touched ≡ false
+  pub made-append : (p : ℕ) → p < 8 → handleNumber u p ≢ 0 → viewOf u 17 p .listed ≡ false → isAppend (transactionOf u 16 .kind) ≡ true
+  pub made-touched : (p : ℕ) → p < 8 → handleNumber u p ≢ 0 → viewOf u 17 p .listed ≡ false → stagedOf u p .touched ≡ true
+
 -- what is left to show: transactions, and what is staged
 pub record Ordered (u : List ℕ) : Type 0 where
   pub numbers : (t x : ℕ) → t < 17 → x < 17 → isOpenAt u t ≡ true → isOpenAt u x ≡ true → transactionOf u t .number ≡ transactionOf u x .number → t ≡ x
   pub number-given : (t : ℕ) → t < 17 → isOpenAt u t ≡ true → transactionOf u t .number ≤ headOf u .«last_transaction»
-  pub shut-untouched : (p : ℕ) → p < 8 → handleNumber u p ≡ 0 → stagedOf u p .touched ≡ false
-  pub idle-untouched : isOpenAt u 16 ≡ false → (p : ℕ) → p < 8 → stagedOf u p .touched ≡ false
   pub views : (t : ℕ) → t < 16 → isOpenAt u t ≡ true → (p : ℕ) → p < 8 → viewOf u t p .listed ≡ true → viewOf u 17 p .listed ≡ true
   pub writer-view : isOpenAt u 16 ≡ true → (p : ℕ) → p < 8 → viewOf u 16 p ≡ viewOf u 17 p
   pub writer-epoch : isOpenAt u 16 ≡ true → transactionOf u 16 .epoch ≡ headOf u .epoch
-  pub made-append : (p : ℕ) → p < 8 → handleNumber u p ≢ 0 → viewOf u 17 p .listed ≡ false → isAppend (transactionOf u 16 .kind) ≡ true
-  pub made-touched : (p : ℕ) → p < 8 → handleNumber u p ≢ 0 → viewOf u 17 p .listed ≡ false → stagedOf u p .touched ≡ true
+  pub staying : Staying u
 
 pub orderly-left : (d s u : List ℕ) → Leaves s u → Orderly d s → Begun u → Bytes u → Ordered u → Orderly d u
 orderly-left d s u left o begun bytes t =
@@ -197,20 +168,14 @@ orderly-left d s u left o begun bytes t =
       number-given = t .number-given;
       free-shut = λ p l. rw (left .names p l, number p l) (o .free-shut p l);
       free-unlisted = λ p l. rw (left .names p l, left .list p l) (o .free-unlisted p l);
-      shut-untouched = t .shut-untouched;
-      idle-untouched = t .idle-untouched;
+      shut-untouched = t .staying .shut-untouched;
+      idle-untouched = t .staying .idle-untouched;
       views = t .views;
       writer-view = t .writer-view;
       writer-epoch = t .writer-epoch;
-      made-append = t .made-append;
-      made-touched = t .made-touched;
+      made-append = t .staying .made-append;
+      made-touched = t .staying .made-touched;
       folder = λ p l. rw (number p l, left .names p l) (o .folder p l);
-      recorded =
-          record {
-            epoch = o .recorded .epoch ∙ sym (left .epoch);
-            list = o .recorded .list;
-            read = o .recorded .read;
-            says = λ n some. o .recorded .says n some ∙ sym (left-list s u left n);
-          };
+      recorded = recorded-as d s d u refl (left .epoch) (λ n some. left-list s u left n) (o .recorded);
       level = rw (left .side, left .epoch) (o .level);
     }

@@ -3,6 +3,10 @@ pub mod Orderly
 pub mod Starts
 pub mod Proper
 pub mod Places
+pub mod Rows
+pub mod Kinds
+pub mod Shown
+pub mod GoodTapes
 pub mod Same
 pub mod Counts
 pub mod Leaving

@@ -2,7 +2,7 @@
 -- nothing.
 use mathlib.Core.Path.{_≡_, refl, sym, ap, _∙_}
 use mathlib.Core.Logic.{⊎-elim}
-use mathlib.Core.Bool.{Bool, true, false, true≢false, _&&_}
+use mathlib.Core.Bool.{Bool, true, false, true≢false}
 use mathlib.Core.List.{List, [], _∷_, List·Memᴰ, List·Memᴰ·head, List·Memᴰ·tail, List·Memᴰ·cases-cons, List·Memᴰ·not-nil}
 use Prim.Native.Nat.{ℕ, _≤_, _<_}
 use native.Mathlib.Omega.{arith}
@@ -23,15 +23,12 @@ use Rattle.layout.specs.NamesLaws.{find-names}
 use Rattle.layout.specs.Session.{namesAt}
 use Rattle.disk.specs.Steps.{sideBytes}
 use Rattle.session.specs.Meaning.{noView}
-use Rattle.session.specs.MeaningLaws.{isOpen}
-use Rattle.session.specs.Rows.{headOf, transactionOf}
-use Rattle.session.specs.declared.transactions.Kind.{Kind}
-use Rattle.session.specs.declared.transactions.Kind.the-variants.{Closed, Reader, Append, Truncate}
+use Rattle.session.specs.Rows.{headOf}
 use Rattle.session.specs.declared.views.View.{View}
 use Rattle.beginning.specs.Laws.{refusal-some}
 use Rattle.beginning.specs.Sessions.{theRecord}
 use Rattle.beginning.specs.Transactions.{isOpenAt}
-use Rattle.staging.specs.Seeing.{isAppend, isTruncate, writes, cuts}
+use Rattle.staging.specs.Seeing.{cuts}
 use Rattle.ending.specs.CommitDurable.{commit-durable}
 use Rattle.ending.specs.CommitLaws.{commit-cases, commit-served}
 use Rattle.ending.specs.CommitMeaning.{commit-published}
@@ -41,6 +38,8 @@ use Rattle.ending.specs.ListingAll.{next-only, next-all}
 use Rattle.seen.specs.Seen.{placeOf, shown, viewIn}
 use Rattle.seen.specs.Orderly.{listedAs, Recorded, Orderly}
 use Rattle.seen.specs.Places.{found-low, found-name, not-found}
+use Rattle.seen.specs.Shown.{shown-none}
+use Rattle.seen.specs.Kinds.{writes-open, cuts-open}
 
 -- ---- a list's word on a name
 
@@ -84,30 +83,23 @@ module _ (n : List ℕ) where
 -- ---- what is published has a name
 
 -- a name that is not the empty one comes behind it
-behind-none : (n : List ℕ) → 0 < length n → comesBefore [] n ≡ true
+pub behind-none : (n : List ℕ) → 0 < length n → comesBefore [] n ≡ true
 unfolding comesBefore
 behind-none [] some = absurd (omega arith)
 behind-none (x ∷ n) some = refl
 
--- a view that lists is shown
-shown-listed : (v : View) → v .listed ≡ true → record { listed = true; len = v .len; start = v .start } ≡ shown v
-shown-listed v e = rw e
-
-shown-none : (v : View) → v .listed ≡ false → shown v ≡ noView
-shown-none v e = rw e
-
 module _ (d s : List ℕ) (o : Orderly d s) (running : isOpenAt s 16 ≡ true) (cut : Bool) where
   -- a free place publishes nothing
-  free-unpublished : (p : ℕ) → p < 8 → length (name s namesAt p) ≡ 0 → published s cut p .listed ≡ false
+  pub free-unpublished : (p : ℕ) → p < 8 → length (name s namesAt p) ≡ 0 → published s cut p .listed ≡ false
   unfolding published isTouched
   free-unpublished p low free = rw (o .free-shut p low free, o .writer-view running p low) (o .free-unlisted p low free)
 
-  published-named : (p : ℕ) → p < 8 → published s cut p .listed ≡ true → 0 < length (name s namesAt p)
+  pub published-named : (p : ℕ) → p < 8 → published s cut p .listed ≡ true → 0 < length (name s namesAt p)
   published-named p low listed =
       order 0 (length (name s namesAt p)) (λ l. l)
       (λ (l : length (name s namesAt p) ≤ 0). absurd (true≢false (sym listed ∙ free-unpublished p low (omega arith))))
 
-  published-apart : (p q : ℕ) → p < 8 → q < 8 → published s cut p .listed ≡ true → published s cut q .listed ≡ true → name s namesAt p ≡ name s namesAt q → p ≡ q
+  pub published-apart : (p q : ℕ) → p < 8 → q < 8 → published s cut p .listed ≡ true → published s cut q .listed ≡ true → name s namesAt p ≡ name s namesAt q → p ≡ q
   published-apart p q low high listed also same = o .names p q low high (published-named p low listed) same
 
   tape-name : (p : ℕ) → tapeIn s cut p .name ≡ name s namesAt p
@@ -116,7 +108,7 @@ module _ (d s : List ℕ) (o : Orderly d s) (running : isOpenAt s 16 ≡ true) (
 
   tape-word : (p : ℕ) → published s cut p .listed ≡ true → wordOf (tapeIn s cut p) ≡ shown (published s cut p)
   unfolding tapeIn
-  tape-word p listed = shown-listed (published s cut p) listed
+  tape-word p listed = rw listed
 
   -- ---- the list's word on a name is what is published of its tape
 
@@ -164,26 +156,6 @@ module _ (d s : List ℕ) (o : Orderly d s) (running : isOpenAt s 16 ≡ true) (
 -- ---- a commit
 
 -- a writer is open that a commit is served for
-append-runs : (k : Kind) (b : Bool) → (isAppend k && b) ≡ true → isOpen k ≡ true
-append-runs Closed b e = e
-append-runs Reader b e = refl
-append-runs Append b e = refl
-append-runs Truncate b e = refl
-
-truncate-runs : (k : Kind) (b : Bool) → (isTruncate k && b) ≡ true → isOpen k ≡ true
-truncate-runs Closed b e = e
-truncate-runs Reader b e = refl
-truncate-runs Append b e = refl
-truncate-runs Truncate b e = refl
-
-writes-open : (s : List ℕ) (t : ℕ) → writes s t ≡ true → isOpenAt s 16 ≡ true
-unfolding writes isOpenAt
-writes-open s t e = append-runs (transactionOf s 16 .kind) _ e
-
-cuts-open : (s : List ℕ) (t : ℕ) → cuts s t ≡ true → isOpenAt s 16 ≡ true
-unfolding cuts isOpenAt
-cuts-open s t e = truncate-runs (transactionOf s 16 .kind) _ e
-
 pub commit-open : (d s : List ℕ) (t : ℕ) → codeOf (commitCall d s t .answer) ≡ 0 → isOpenAt s 16 ≡ true
 commit-open d s t =
     commit-cases (λ (x : Outcome). codeOf (x .answer) ≡ 0 → isOpenAt s 16 ≡ true) d s (λ why e. absurd (refusal-some why e)) t
@@ -222,13 +194,16 @@ commit-recorded d s o t served =
 pub record-same : (d e : List ℕ) → ((side : Side) → sideBytes e side ≡ sideBytes d side) → theRecord e ≡ theRecord d
 record-same d e same = rw (same Left, same Right)
 
-pub recorded-same : (d s e u : List ℕ) → ((side : Side) → sideBytes e side ≡ sideBytes d side) → headOf u .epoch ≡ headOf s .epoch
+pub recorded-as : (d s e u : List ℕ) → theRecord e ≡ theRecord d → headOf u .epoch ≡ headOf s .epoch
     → ((n : List ℕ) → 0 < length n → viewIn u 17 (placeOf u n) ≡ viewIn s 17 (placeOf s n)) → Recorded d s → Recorded e u
-recorded-same d s e u sides epoch views r =
-    let same = record-same d e sides in
+recorded-as d s e u same epoch views r =
     record {
       epoch = ap chosenEpoch same ∙ r .epoch ∙ sym epoch;
       list = r .list;
       read = ap chosenList same ∙ r .read;
       says = λ n some. r .says n some ∙ sym (views n some);
     }
+
+pub recorded-same : (d s e u : List ℕ) → ((side : Side) → sideBytes e side ≡ sideBytes d side) → headOf u .epoch ≡ headOf s .epoch
+    → ((n : List ℕ) → 0 < length n → viewIn u 17 (placeOf u n) ≡ viewIn s 17 (placeOf s n)) → Recorded d s → Recorded e u
+recorded-same d s e u sides = recorded-as d s e u (record-same d e sides)

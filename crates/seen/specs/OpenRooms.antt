@@ -15,11 +15,10 @@ use Rattle.octets.specs.declared.Found.the-variants.{At, Nothing}
 use Rattle.answers.specs.Answers.{codeOf}
 use Rattle.components.specs.Pieces.{fileOf}
 use Rattle.components.specs.Slots.{covered}
-use Rattle.components.specs.SlotsLaws.{lacking-empty, lacking-same, covered-none}
+use Rattle.components.specs.SlotsLaws.{lacking-same}
 use Rattle.layout.specs.Disk.{slots}
 use Rattle.layout.specs.Names.{name}
 use Rattle.layout.specs.Session.{namesAt, handleNumber, fileSize}
-use Rattle.disk.specs.Steps.{files}
 use Rattle.session.specs.declared.tape_rows.Handle.{Handle}
 use Rattle.session.specs.Rows.{transactionOf, handleOf}
 use Rattle.rolling_tape.specs.Room.{onDisk}
@@ -32,16 +31,12 @@ use Rattle.touches.specs.Opens.{opened, open-leaves-disk}
 use Rattle.touches.specs.Rows.{numAt-stays}
 use Rattle.joins.specs.Caches.{rowStaged}
 use Rattle.seen.specs.Orderly.{Orderly}
+use Rattle.seen.specs.Lacking.{none-lacking}
 use Rattle.seen.specs.Rooms.{Roomy}
 use Rattle.seen.specs.OpensRows.{Rows}
 use Rattle.seen.specs.OpensPlaces.{only-here}
 use Rattle.seen.specs.OpensServed.{Served, open-served}
 use Rattle.seen.specs.OpensOrder.{other-number}
-
--- no bytes lack no file
-lacking-nothing : (d : List ℕ) (fs low end : ℕ) (f : Found) → end ≤ low → lackingIn d fs low end f ≡ 0
-lacking-nothing d fs low end (At place) l = rw (covered-none fs low end l) (lacking-empty (onDisk d place) (fileOf fs low))
-lacking-nothing d fs low end Nothing l = covered-none fs low end l
 
 -- where each tape lacks no more, all of them lack no more
 fewer-lacking : (d s e u : List ℕ) → ((q : ℕ) → q < 8 → lackingOf e u 8 0 q ≤ lackingOf d s 8 0 q) → (n i : ℕ) → i + n ≤ 8 → lackingAll e u 8 0 n i ≤ lackingAll d s 8 0 n i
@@ -70,7 +65,7 @@ module _ (d s : List ℕ) (t : ℕ) (wanted : List ℕ) (entry fs cache start : 
       decide (isStaged u 8 p)
       (λ (is : isStaged u 8 p ≡ true).
       rw (is, own-staged)
-      (lacking-nothing e (fileSize u p) _ _ (directoryOf e u p) (decide (eqb p 8) (λ (z : eqb p 8 ≡ true). rw z (omega arith)) (λ (z : eqb p 8 ≡ false). rw z (omega arith)))))
+      (none-lacking e (fileSize u p) _ _ (directoryOf e u p) (decide (eqb p 8) (λ (z : eqb p 8 ≡ true). rw z (omega arith)) (λ (z : eqb p 8 ≡ false). rw z (omega arith)))))
       (λ (none : isStaged u 8 p ≡ false). rw none)
 
   -- another tape

@@ -2,12 +2,11 @@
 -- stay in order. Assumes nothing.
 use mathlib.Core.Path.{_≡_, refl, sym, ap, subst, _∙_}
 use mathlib.Core.Logic.{_≢_}
-use mathlib.Core.Bool.{Bool, true, false, cond}
+use mathlib.Core.Bool.{true}
 use mathlib.Core.List.{List, []}
 use Prim.Native.Nat.{ℕ, _+_, _<_, _^_}
 use native.Mathlib.Omega.{arith}
 use lib.ListN.{length}
-use Rattle.octets.specs.Cases.{decide}
 use Rattle.octets.specs.Number.{Bytes}
 use Rattle.octets.specs.declared.Found.{Found}
 use Rattle.octets.specs.declared.Found.the-variants.{At, Nothing}
@@ -22,10 +21,8 @@ use Rattle.session.specs.declared.head.Head.{Head}
 use Rattle.session.specs.declared.transactions.Kind.the-variants as K
 use Rattle.session.specs.declared.transactions.Transaction.{Transaction}
 use Rattle.session.specs.declared.views.View.{View}
-use Rattle.session.specs.Meaning.{noView}
 use Rattle.session.specs.Rows.{headOf, viewOf, transactionOf, ringBytes}
 use Rattle.rolling_tape.specs.Removal.{areas}
-use Rattle.beginning.specs.Sessions.{theRecord}
 use Rattle.beginning.specs.Transactions.{isOpenAt}
 use Rattle.beginning.specs.Ways.{usable-begun}
 use Rattle.opening.specs.Calls.{cachedBytes, viewFound, placeFor, openCall}
@@ -35,9 +32,11 @@ use Rattle.restarts.specs.Kept.{open-level}
 use Rattle.touches.specs.Opens.{opened, open-touches-disk, open-leaves-disk}
 use Rattle.touches.specs.Rows.{numAt-stays, side-stays}
 use Rattle.lives.specs.Life.{Store, Done, open′, step, After}
-use Rattle.seen.specs.Seen.{placeOf, shown, viewIn, Seen, Handled}
+use Rattle.seen.specs.Seen.{placeOf, viewIn, Seen, Handled}
 use Rattle.seen.specs.Orderly.{Orderly}
 use Rattle.seen.specs.Places.{found-low}
+use Rattle.seen.specs.Shown.{shown-keeps}
+use Rattle.seen.specs.Lists.{record-same}
 use Rattle.seen.specs.Same.{Same, seen-same, handled-same}
 use Rattle.seen.specs.OpensFolders.{readied-other}
 use Rattle.seen.specs.OpensPlaces.{other-place, apart-place}
@@ -97,9 +96,6 @@ module _ (d s : List ℕ) (t : ℕ) (wanted : List ℕ) (entry fs cache start : 
       side-stays 288 1312 d e (leaves .sides-stay) (open-touches-disk d s t wanted entry fs cache start .long) Right
       (numAt-stays 0 32 d e (leaves .fields-stay) 8 24 (omega arith) (omega arith)) (sound .head .right) (omega arith) (omega arith)
 
-  record-same : theRecord e ≡ theRecord d
-  record-same = rw (side-same Left, side-same Right)
-
 -- ---- the call
 
 module _ (d s : List ℕ) (t : ℕ) (wanted : List ℕ) (entry fs cache start : ℕ) (orderly : Orderly d s) (new : Bytes wanted) (small : start < 2 ^ 64)
@@ -122,7 +118,7 @@ module _ (d s : List ℕ) (t : ℕ) (wanted : List ℕ) (entry fs cache start : 
       let both = open-sound d s t wanted entry fs cache start (sv .both) in
       let bytes = open-bytes d s t wanted entry fs cache start (orderly .disk-bytes) (orderly .session-bytes) new in
       orderly-open d s t wanted entry fs cache start after-disk after-session orderly sv (usable-disk after-disk after-session both) (usable-begun after-disk after-session both)
-      (bytes .0) (bytes .1) (record-same d s t wanted entry fs cache start (orderly .disk))
+      (bytes .0) (bytes .1) (record-same d after-disk (side-same d s t wanted entry fs cache start (orderly .disk)))
       (open-level d s (orderly .session-bytes) t wanted entry fs cache start (orderly .disk) (orderly .level))
 
   -- the writer is still the append, so what is said of a truncate alone holds
@@ -150,14 +146,8 @@ module _ (d s : List ℕ) (t : ℕ) (wanted : List ℕ) (entry fs cache start : 
     unfolding isOpenAt
     open-listed = by (placeOf s wanted) refl ∙ ap (λ (x : View). x .listed) (seen .list)
       where
-        shown-listed : (x : View) → x .listed ≡ shown x .listed
-        shown-listed x =
-            decide (x .listed)
-            (λ (y : x .listed ≡ true). sym (ap (λ (b : Bool). cond b x noView .listed) y))
-            (λ (y : x .listed ≡ false). y ∙ sym (ap (λ (b : Bool). cond b x noView .listed) y))
-
         by : (f : Found) → placeOf s wanted ≡ f → viewFound s f .listed ≡ viewIn s 17 f .listed
-        by (At q) at = ap (λ (x : View). x .listed) (orderly .writer-view (rw (sv .kind)) q (found-low s namesAt wanted q at)) ∙ shown-listed (viewOf s 17 q)
+        by (At q) at = ap (λ (x : View). x .listed) (orderly .writer-view (rw (sv .kind)) q (found-low s namesAt wanted q at)) ∙ sym (shown-keeps (viewOf s 17 q))
         by Nothing at = refl
 
     module _ (reopened : st .listed ≡ true → fs ≡ st .size) where

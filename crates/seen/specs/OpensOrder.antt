@@ -1,5 +1,5 @@
 -- A served open leaves the areas in order: its tape gets the next handle's number, in its own place or in a free one, and has a directory. Assumes nothing.
-use mathlib.Core.Path.{_≡_, refl, sym, ap, _∙_}
+use mathlib.Core.Path.{_≡_, sym, ap, _∙_}
 use mathlib.Core.Logic.{_≢_}
 use mathlib.Core.Bool.{true, false, true≢false}
 use mathlib.Core.List.{List}
@@ -9,15 +9,11 @@ use lib.ListN.{length}
 use Rattle.octets.specs.Cases.{decide, equal, order}
 use Rattle.octets.specs.Compare.{sameBytes, same-true, same-refl}
 use Rattle.octets.specs.Number.{Bytes}
-use Rattle.octets.specs.declared.Found.{Found}
-use Rattle.octets.specs.declared.Found.the-variants.{At, Nothing}
-use Rattle.metadata.specs.Choice.{chosenEpoch, chosenList}
 use Rattle.layout.specs.Names.{name}
 use Rattle.layout.specs.Disk as D
 use Rattle.layout.specs.Session.{namesAt, handleNumber, Begun}
 use Rattle.session.specs.declared.head.Head.{Head}
-use Rattle.session.specs.declared.tape_rows.Handle.{Handle}
-use Rattle.session.specs.Rows.{headOf, transactionOf, handleOf}
+use Rattle.session.specs.Rows.{headOf}
 use Rattle.rolling_tape.specs.Room.{isFound}
 use Rattle.beginning.specs.Sessions.{theRecord}
 use Rattle.beginning.specs.Transactions.{isOpenAt}
@@ -26,24 +22,14 @@ use Rattle.opening.specs.Calls.{cachedBytes, nextHandle}
 use Rattle.opening.specs.declared.shape.Opening.{Opening}
 use Rattle.ending.specs.CommitDurable.{Level}
 use Rattle.touches.specs.Opens.{opened}
-use Rattle.seen.specs.Seen.{placeOf, shown, viewIn}
+use Rattle.seen.specs.Seen.{placeOf, viewIn}
 use Rattle.seen.specs.Orderly.{Orderly}
 use Rattle.seen.specs.Places.{found-low}
+use Rattle.seen.specs.Rows.{number-of, number-row, open-row, view-rows}
+use Rattle.seen.specs.Lists.{recorded-as}
 use Rattle.seen.specs.OpensRows.{Rows}
 use Rattle.seen.specs.OpensPlaces.{only-here, other-place, own-list}
 use Rattle.seen.specs.OpensServed.{Served}
-
-number-of : (u : List ℕ) (p : ℕ) (h : Handle) → handleOf u p ≡ h → handleNumber u p ≡ h .number
-unfolding handleOf
-number-of u p h e = ap (λ (x : Handle). x .number) e
-
-number-row : (s u : List ℕ) (q : ℕ) → handleOf u q ≡ handleOf s q → handleNumber u q ≡ handleNumber s q
-unfolding handleOf
-number-row s u q e = ap (λ (x : Handle). x .number) e
-
-open-row : (s u : List ℕ) (t : ℕ) → transactionOf u t ≡ transactionOf s t → isOpenAt u t ≡ isOpenAt s t
-unfolding isOpenAt
-open-row s u t e = rw e
 
 module _ (d s : List ℕ) (t : ℕ) (wanted : List ℕ) (entry fs cache start : ℕ) (e u : List ℕ) (orderly : Orderly d s) (sv : Served d s t wanted entry fs cache start e u) where
   abbrev p : ℕ
@@ -146,17 +132,12 @@ module _ (d s : List ℕ) (t : ℕ) (wanted : List ℕ) (entry fs cache start : 
       (λ same. rw (same-true n wanted same) (own-list d s u p wanted o bs orderly (sv .low) (sv .shaped .name-some) (sv .opens .place) rows))
       (λ (other : sameBytes n wanted ≡ false).
       let differs : n ≢ wanted = λ z. true≢false (sym (ap (λ (m : List ℕ). sameBytes m wanted) z ∙ same-refl wanted) ∙ other) in
-      ap (viewIn u 17) (other-place d s u p wanted o bs orderly (sv .low) (sv .shaped .name-some) (sv .opens .place) rows n differs some)
-      ∙ by (placeOf s n) refl)
-    where
-      by : (f : Found) → placeOf s n ≡ f → viewIn u 17 f ≡ viewIn s 17 f
-      by (At q) at = ap shown (rows .views 17 q (omega arith) (found-low s namesAt n q at))
-      by Nothing at = refl
+      view-rows s u n (other-place d s u p wanted o bs orderly (sv .low) (sv .shaped .name-some) (sv .opens .place) rows n differs some) 17
+      (λ q at. rows .views 17 q (omega arith) (found-low s namesAt n q at)))
 
   module _ (sound : D.Sound e) (begun : Begun u) (disk-bytes : Bytes e) (session-bytes : Bytes u) (records : theRecord e ≡ theRecord d) (level : Level e u) where
     pub orderly-open : Orderly e u
     orderly-open =
-        let was = orderly .recorded in
         record {
           disk = sound;
           session = begun;
@@ -192,11 +173,6 @@ module _ (d s : List ℕ) (t : ℕ) (wanted : List ℕ) (entry fs cache start : 
               rw (rows .stageds q l apart)
               (orderly .made-touched q l (λ z. some (other-number q l apart ∙ z)) (rw (rows .views 17 q (omega arith) l) at made)));
           folder = folder-of;
-          recorded = record {
-            epoch = ap chosenEpoch records ∙ was .epoch ∙ sym (ap (λ (h : Head). h .epoch) (rows .head));
-            list = was .list;
-            read = ap chosenList records ∙ was .read;
-            says = λ n some. was .says n some ∙ sym (says-of n some);
-          };
+          recorded = recorded-as d s e u records (ap (λ (h : Head). h .epoch) (rows .head)) says-of (orderly .recorded);
           level = level;
         }

@@ -22,6 +22,7 @@ use Rattle.lives.specs.Life.{Reader}
 use Rattle.seen.specs.Seen.{placeOf, shown, viewIn, readerIn, countOpen}
 use Rattle.seen.specs.Orderly.{Orderly}
 use Rattle.seen.specs.Places.{found-name, not-found, found-at}
+use Rattle.seen.specs.Rows.{open-row}
 use Rattle.seen.specs.OpensRows.{Rows}
 
 -- the place that a tape gets: its own, or a free one
@@ -105,17 +106,13 @@ module _ (d s u : List ℕ) (p : ℕ) (wanted : List ℕ) (o : Opening) (bs : Li
   pub own-list : viewIn u 17 (placeOf u wanted) ≡ viewIn s 17 (placeOf s wanted)
   own-list = own-view 17 (omega arith) free-list
 
-  open-same : (t : ℕ) → t < 17 → isOpenAt u t ≡ isOpenAt s t
-  unfolding isOpenAt
-  open-same t l = rw (rows .transactions t l)
-
   pub own-readers : (has : Reader → Bool) → countOpen has u (placeOf u wanted) ≡ countOpen has s (placeOf s wanted)
   unfolding countOpen
   own-readers has =
       count-same (λ t. isOpenAt u t && has (readerIn u (placeOf u wanted) t)) (λ t. isOpenAt s t && has (readerIn s (placeOf s wanted) t)) 16 0
       (λ t a b.
       let l : t < 16 = omega arith in
-      let same = open-same t (omega arith) in
+      let same = open-row s u t (rows .transactions t (omega arith)) in
       decide (isOpenAt s t)
       (λ (is : isOpenAt s t ≡ true).
       rw (same, is, rows .transactions t (omega arith), own-view t (omega arith) (λ free. free-reader free t l is)))

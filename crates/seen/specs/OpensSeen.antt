@@ -36,6 +36,7 @@ use Rattle.lives.specs.Life.{appending, Store, After, Done, open′, step, step
 use Rattle.seen.specs.Seen.{placeOf, shown, viewIn, stagedIn, writerAs, writerIn, touchedIn, liveIn, filesIn, SeenOpen, Seen, Handled, handleIn, entryIn}
 use Rattle.seen.specs.Orderly.{Orderly}
 use Rattle.seen.specs.Places.{found-low}
+use Rattle.seen.specs.Rows.{number-of}
 use Rattle.seen.specs.OpensRows.{Rows}
 use Rattle.seen.specs.OpensFolders.{openedFiles}
 use Rattle.seen.specs.OpensPlaces.{place-either, own-place, own-list, own-readers}
@@ -212,8 +213,7 @@ module _ (d s : List ℕ) (t : ℕ) (wanted : List ℕ) (entry fs cache start : 
     -- ---- what is seen then
 
     number-is : handleNumber u p ≡ nextHandle s
-    unfolding handleOf
-    number-is = ap (λ (h : Handle). h .number) (rows .own-handle)
+    number-is = number-of u p _ (rows .own-handle)
 
     size-is : fileSize u p ≡ fs
     unfolding handleOf openingOf

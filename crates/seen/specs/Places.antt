@@ -1,14 +1,12 @@
 -- Where a tape's name is found, in the session and on the disk. Assumes nothing.
-use mathlib.Core.Path.{_≡_, refl, sym, ap, _∙_}
-use mathlib.Core.Bool.{Bool, true, false, true≢false}
+use mathlib.Core.Path.{_≡_, sym, ap, _∙_}
+use mathlib.Core.Bool.{true, true≢false}
 use mathlib.Core.List.{List}
-use Prim.Native.Nat.{ℕ, _≤_, _<_}
+use Prim.Native.Nat.{ℕ, _<_}
 use native.Mathlib.Omega.{arith}
-use lib.ListN.{length}
-use Rattle.octets.specs.Cases.{decide, order}
+use Rattle.octets.specs.Cases.{decide}
 use Rattle.octets.specs.Compare.{sameBytes, same-true, same-refl}
-use Rattle.octets.specs.First.{Hit, first, first-same, first-at, first-hits, first-misses}
-use Rattle.octets.specs.declared.Found.{Found}
+use Rattle.octets.specs.First.{first-same, first-at, first-hits, first-misses}
 use Rattle.octets.specs.declared.Found.the-variants.{At, Nothing}
 use Rattle.layout.specs.Names.{name, findName}
 

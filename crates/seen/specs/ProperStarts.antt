@@ -16,25 +16,26 @@ use Rattle.octets.specs.declared.Found.the-variants.{At, Nothing}
 use Rattle.answers.specs.Answers.{codeOf}
 use Rattle.metadata.specs.Choice.{chosenList}
 use Rattle.metadata.specs.Name.{nameRule}
+use Rattle.metadata.specs.Decoding.{tapes}
 use Rattle.metadata.specs.NameLaws.{rule-empty}
 use Rattle.metadata.specs.Rules.{good-first, good-others, good-tapes}
 use Rattle.metadata.specs.Tapes.{Tape, fits, goodAfter}
 use Rattle.layout.specs.Names.{name}
 use Rattle.layout.specs.Session.{namesAt}
 use Rattle.disk.specs.Meaning.{blank, diskOf}
-use Rattle.session.specs.BeginLaws.{nameOf, viewFor, started}
-use Rattle.session.specs.Meaning.{Session}
-use Rattle.session.specs.MeaningLaws.{name-at, view-at}
+use Rattle.session.specs.BeginLaws.{nameOf, viewFor}
 use Rattle.session.specs.Rows.{viewOf}
 use Rattle.session.specs.declared.views.View.{View}
 use Rattle.beginning.specs.Sessions.{theRecord, storeCall}
-use Rattle.beginning.specs.StoreLaws.{list-good, store-means}
+use Rattle.beginning.specs.StoreLaws.{list-good}
+use Rattle.restarts.specs.Level.{store-reads}
 use Rattle.lives.specs.Life as Life
-use Rattle.seen.specs.Seen.{placeOf, shown, viewIn}
-use Rattle.seen.specs.Orderly.{listedAs, Recorded, Orderly}
+use Rattle.seen.specs.Seen.{placeOf, viewIn}
+use Rattle.seen.specs.Orderly.{listedAs, Orderly}
 use Rattle.seen.specs.Proper.{Proper}
 use Rattle.seen.specs.Places.{found-low, found-name}
-use Rattle.seen.specs.Restarts.{same-list, store-recorded}
+use Rattle.seen.specs.Shown.{shown-keeps}
+use Rattle.seen.specs.Restarts.{same-list, name-stored, list-stored, stands, list-says}
 use Rattle.seen.specs.Formats.{blank-seen}
 
 -- ---- the tapes of a list that may be stored: each keeps the rule, and the list has its name
@@ -48,6 +49,7 @@ rule-in before [] good i t e = let z : _≡_ {A = ℕ} 0 1 = cc in absurd (omega
 rule-in before (x ∷ xs) good zero t e = let same : x ≡ t = cc in rw (← same) (fits-rule before x (good-first before x xs good))
 rule-in before (x ∷ xs) good (suc i) t e = rule-in (x .name) xs (good-others before x xs good) i t e
 
+-- (`name-some` of opening/ShapeLaws, which is private there)
 rule-some : (n : List ℕ) → nameRule n ≡ true → 0 < length n
 rule-some n e = order 0 (length n) (λ l. l) (λ (l : length n ≤ 0). absurd (true≢false (sym e ∙ rule-empty n (omega arith))))
 
@@ -60,56 +62,40 @@ listed-in (x ∷ xs) (suc i) t e =
     (λ (hit : sameBytes (x .name) (t .name) ≡ true). rw hit)
     (λ (miss : sameBytes (x .name) (t .name) ≡ false). rw miss (listed-in xs i t e))
 
--- a view that shows is listed
-shown-is : (v : View) → shown v .listed ≡ true → v .listed ≡ true
-shown-is v e = decide (v .listed) (λ t. t) (λ (f : v .listed ≡ false). absurd (false≢true (rw f at e)))
-
 -- ---- the names after a store
 
 module _ (d area : List ℕ) (bytes : Bytes d) (served : codeOf (storeCall d area .answer) ≡ 0) where
   abbrev u : List ℕ
   u = storeCall d area .session
 
-  new : Recorded d (storeCall d area .session)
-  new = store-recorded d area bytes served
-
   abbrev ts : List Tape
-  ts = new .list
+  ts = store-reads d area served .list
 
-  name-stored : (p : ℕ) → p < 8 → name u namesAt p ≡ nameOf (getElem? ts p)
-  unfolding started
-  name-stored p low = sym (name-at u p low) ∙ ap (λ (m : Session). m .name p) (store-means d area bytes ts (new .read) served)
-
-  view-stored : (p : ℕ) → p < 8 → viewOf u 17 p ≡ viewFor (getElem? ts p)
-  unfolding started
-  view-stored p low = sym (view-at u 17 p (omega arith) low) ∙ ap (λ (m : Session). m .view 17 p) (store-means d area bytes ts (new .read) served)
+  read : chosenList (theRecord d) ≡ tapes ts
+  read = store-reads d area served .is
 
   -- the list has the name in place p
-  record Stands (p : ℕ) : Type 0 where
+  record Listed (p : ℕ) : Type 0 where
     named : 0 < length (name u namesAt p)
     listed : listedAs (name u namesAt p) ts .listed ≡ true
 
-  stands : (p : ℕ) → p < 8 → (t : Tape) → getElem? ts p ≡ some t → Stands p
-  stands p low t e =
-      let has : name u namesAt p ≡ t .name = name-stored p low ∙ ap nameOf e in
+  tape-listed : (p : ℕ) → p < 8 → (t : Tape) → getElem? ts p ≡ some t → Listed p
+  tape-listed p low t e =
+      let has : name u namesAt p ≡ t .name = name-stored d area bytes served p low ∙ ap nameOf e in
       record {
-        named = rw has (rule-some (t .name) (rule-in [] ts (good-tapes ts (list-good (theRecord d) ts (new .read))) p t e));
+        named = rw has (rule-some (t .name) (rule-in [] ts (good-tapes ts (list-good (theRecord d) ts read)) p t e));
         listed = rw has (listed-in ts p t e);
       }
 
-  stands-named : (p : ℕ) → p < 8 → 0 < length (name u namesAt p) → Stands p
-  stands-named p low long = by (getElem? ts p) refl
-    where
-      by : (o : Option Tape) → getElem? ts p ≡ o → Stands p
-      by none e = let blank : name u namesAt p ≡ [] = name-stored p low ∙ ap nameOf e in absurd (omega (arith, ap length blank))
-      by (some t) e = stands p low t e
+  named-listed : (p : ℕ) → p < 8 → 0 < length (name u namesAt p) → Listed p
+  named-listed p low long = let it = stands d area bytes served p low long in tape-listed p low (it .tape) (it .at)
 
-  stands-listed : (p : ℕ) → p < 8 → viewOf u 17 p .listed ≡ true → Stands p
-  stands-listed p low listed = by (getElem? ts p) refl
+  seen-listed : (p : ℕ) → p < 8 → viewOf u 17 p .listed ≡ true → Listed p
+  seen-listed p low listed = by (getElem? ts p) refl
     where
-      by : (o : Option Tape) → getElem? ts p ≡ o → Stands p
-      by none e = absurd (true≢false (sym listed ∙ ap (λ (v : View). v .listed) (view-stored p low ∙ ap viewFor e)))
-      by (some t) e = stands p low t e
+      by : (o : Option Tape) → getElem? ts p ≡ o → Listed p
+      by none e = absurd (true≢false (sym listed ∙ ap (λ (v : View). v .listed) (list-stored d area bytes served p low ∙ ap viewFor e)))
+      by (some t) e = tape-listed p low t e
 
   -- ---- a session ran before, in s; area is whatever is then lent as the session: the same, or another
 
@@ -121,14 +107,14 @@ module _ (d area : List ℕ) (bytes : Bytes d) (served : codeOf (storeCall d are
       same : name s namesAt place ≡ n
       listed : viewOf s 17 place .listed ≡ true
 
-    was : (p : ℕ) → Stands p → Was (name u namesAt p)
+    was : (p : ℕ) → Listed p → Was (name u namesAt p)
     was p st = by (placeOf s n) refl
       where
         n : List ℕ
         n = name u namesAt p
 
-        lists : new .list ≡ o .recorded .list
-        lists = same-list (chosenList (theRecord d)) (new .list) (o .recorded .list) (new .read) (o .recorded .read)
+        lists : ts ≡ o .recorded .list
+        lists = same-list (chosenList (theRecord d)) ts (o .recorded .list) read (o .recorded .read)
 
         word : viewIn s 17 (placeOf s n) .listed ≡ true
         word =
@@ -142,7 +128,7 @@ module _ (d area : List ℕ) (bytes : Bytes d) (served : codeOf (storeCall d are
               place = q;
               low = found-low s namesAt n q e;
               same = found-name s namesAt n q e;
-              listed = shown-is (viewOf s 17 q) (sym (ap (λ (f : Found). viewIn s 17 f .listed) e) ∙ word);
+              listed = sym (shown-keeps (viewOf s 17 q)) ∙ (sym (ap (λ (f : Found). viewIn s 17 f .listed) e) ∙ word);
             }
         by Nothing e = absurd (false≢true (sym (ap (λ (f : Found). viewIn s 17 f .listed) e) ∙ word))
 
@@ -150,33 +136,33 @@ module _ (d area : List ℕ) (bytes : Bytes d) (served : codeOf (storeCall d are
     names-proper proper =
         record {
           rule = λ p low some.
-              let w = was p (stands-named p low some) in
+              let w = was p (named-listed p low some) in
               rw (w .same) at (proper .rule (w .place) (w .low) (rw (w .same) some));
           unreserved = λ p low some.
-              let w = was p (stands-named p low some) in
+              let w = was p (named-listed p low some) in
               rw (w .same) at (proper .unreserved (w .place) (w .low) (rw (w .same) some));
           housed = λ p low listed.
-              let w = was p (stands-listed p low listed) in
+              let w = was p (seen-listed p low listed) in
               rw (w .same) at (proper .housed (w .place) (w .low) (w .listed));
         }
 
   -- ---- an empty disk
 
   module _ (k : ℕ) (empty : diskOf d ≡ blank k) where
-    none-stands : {A : Type 0} → (p : ℕ) → Stands p → A
+    none-listed : {A : Type 0} → (p : ℕ) → Listed p → A
     unfolding Life.blank
-    none-stands p st =
+    none-listed p st =
         absurd
         (true≢false
         (sym (st .listed)
-        ∙ ap (λ (v : View). v .listed) (new .says (name u namesAt p) (st .named) ∙ blank-seen d k empty area bytes served (name u namesAt p) (st .named) .list)))
+        ∙ ap (λ (v : View). v .listed) (list-says d area bytes served (name u namesAt p) (st .named) ∙ blank-seen d k empty area bytes served (name u namesAt p) (st .named) .list)))
 
     none-proper : Proper d (storeCall d area .session)
     none-proper =
         record {
-          rule = λ p low some. none-stands p (stands-named p low some);
-          unreserved = λ p low some. none-stands p (stands-named p low some);
-          housed = λ p low listed. none-stands p (stands-listed p low listed);
+          rule = λ p low some. none-listed p (named-listed p low some);
+          unreserved = λ p low some. none-listed p (named-listed p low some);
+          housed = λ p low listed. none-listed p (seen-listed p low listed);
         }
 
 -- ---- the calls

@@ -37,7 +37,6 @@ use Rattle.staging.specs.Ways.{handle-found}
 use Rattle.appending.specs.Room.{lowOf, endOf, lackingOf, lackingAll, noRoom}
 use Rattle.appending.specs.Calls.{putOn, putWhere, appendOn, appendIn, putCall}
 use Rattle.appending.specs.Laws.{Goes, put-slots}
-use Rattle.touches.specs.Parts.{names, tapes}
 use Rattle.lives.specs.Told.{Told}
 use Rattle.lives.specs.Invariant.{Phys, Good, build}
 use Rattle.seen.specs.Seen.{Seen, Handled}

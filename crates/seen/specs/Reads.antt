@@ -13,7 +13,6 @@ use lib.Dec.{eqb}
 use lib.ListN.{length, take, drop}
 use Rattle.octets.specs.Cases.{picked, decide, and-l, and-r, and-both}
 use Rattle.octets.specs.Bytes.{put}
-use Rattle.octets.specs.First.{first-at}
 use Rattle.octets.specs.declared.Found.{Found}
 use Rattle.octets.specs.declared.Found.the-variants.{At, Nothing}
 use Rattle.answers.specs.Outcome.{Outcome, reading, entering, popping}
@@ -22,9 +21,9 @@ use Rattle.answers.specs.declared.OneEntry.the-variants.{Entry}
 use Rattle.components.specs.BoundsLaws.{→in-bounds}
 use Rattle.layout.specs.Disk.{directories}
 use Rattle.layout.specs.Names.{findName}
-use Rattle.layout.specs.Session.{namesAt, kindWord, handleNumber, entrySize}
-use Rattle.session.specs.MeaningLaws.{isOpen, open-kind}
-use Rattle.session.specs.Rows.{viewOf, transactionOf, handleOf, stagedOf, isOpenAs, findTransaction, findHandle}
+use Rattle.layout.specs.Session.{namesAt, handleNumber, entrySize}
+use Rattle.session.specs.MeaningLaws.{isOpen}
+use Rattle.session.specs.Rows.{viewOf, transactionOf, handleOf, stagedOf, findTransaction, findHandle}
 use Rattle.session.specs.declared.transactions.Kind.{Kind}
 use Rattle.session.specs.declared.transactions.Kind.the-variants as K
 use Rattle.session.specs.declared.views.View.{View}
@@ -52,34 +51,11 @@ use Rattle.lives.specs.Reads.{reads-held}
 use Rattle.seen.specs.Seen.{placeOf, shown, viewIn, readerIn, writerAs, writerIn, countIn, filesIn, Seen, Handled}
 use Rattle.seen.specs.Orderly.{Orderly}
 use Rattle.seen.specs.Counts.{in-hit, in-miss, open-some}
+use Rattle.seen.specs.Shown.{shown-listed}
+use Rattle.seen.specs.Closes.{find-transaction}
 use Rattle.seen.specs.Handles.{Placed, handle-place, live-at}
 use Rattle.seen.specs.Places.{found-low}
 use Rattle.seen.specs.Starts.{CutStarts}
-
--- ---- the places of transactions
-
-module _ (d s : List ℕ) (o : Orderly d s) where
-  open-as : (k t : ℕ) → isOpenAs s k t ≡ (isOpenAt s t && eqb (transactionOf s t .number) k)
-  unfolding isOpenAt transactionOf
-  open-as k t = rw (open-kind (kindWord s t))
-
-  find-open : (k x : ℕ) → x < 17 → isOpenAt s x ≡ true → transactionOf s x .number ≡ k → findTransaction s k ≡ At x
-  unfolding findTransaction
-  find-open k x low opened own =
-      first-at (isOpenAs s k) 17 0 x
-      (record {
-        low = omega arith;
-        high = omega arith;
-        holds = open-as k x ∙ and-both (isOpenAt s x) (eqb (transactionOf s x .number) k) opened (eq-eqb (transactionOf s x .number) k own);
-        before = λ y a b.
-            decide (isOpenAs s k y)
-            (λ (e : isOpenAs s k y ≡ true).
-            let both : (isOpenAt s y && eqb (transactionOf s y .number) k) ≡ true = sym (open-as k y) ∙ e in
-            let is : transactionOf s y .number ≡ k = eqb-true (transactionOf s y .number) k (and-r (isOpenAt s y) _ both) in
-            let same : x ≡ y = o .numbers x y low (omega arith) opened (and-l (isOpenAt s y) _ both) (own ∙ sym is) in
-            absurd (omega arith))
-            (λ e. e);
-      })
 
 -- ---- what the writer's row says
 
@@ -129,11 +105,8 @@ record CutSight (s : List ℕ) (k p : ℕ) (v : View) : Type 0 where
   view : seenBy s 16 p ≡ v
 
 -- a view that is shown as listed is shown as it is
-shown-whole : (v : View) → shown v .listed ≡ true → v ≡ shown v
-shown-whole v = picked (λ (x : View). x .listed ≡ true → v ≡ x) (v .listed) v _ (λ e h. refl) (λ e h. absurd (true≢false (sym h)))
-
 shown-as : (v : View) (len start : ℕ) → shown v ≡ record { listed = true; len = len; start = start } → v ≡ record { listed = true; len = len; start = start }
-shown-as v len start e = shown-whole v (ap (λ (x : View). x .listed) e) ∙ e
+shown-as v len start e = shown-listed v _ e refl .1
 
 -- a reader whose page it is
 abbrev isPage : ℕ → Page → Reader → Bool
@@ -173,7 +146,7 @@ module _ (d s n : List ℕ) (o : Orderly d s) (st : Store) (seen : Seen d s n st
       let whole : v ≡ viewP q = λ i. record { listed = and-l (v .listed) _ bounds i; len = len i; start = start i } in
       record {
         place = x;
-        found = find-open d s o k x (omega (arith, a .low)) (a .opened) (eqb-true (transactionOf s x .number) k (and-l (eqb (transactionOf s x .number) k) _ is));
+        found = find-transaction d s o k x (record { low = omega (arith, a .low); opened = a .opened; number = (eqb-true (transactionOf s x .number) k (and-l (eqb (transactionOf s x .number) k) _ is)) });
         view = sym (seen-view s x p (λ e. omega (arith, a .low))) ∙ shown-as (viewOf s x p) (length (q .content)) (q .start) whole;
       }
 
@@ -188,7 +161,7 @@ module _ (d s n : List ℕ) (o : Orderly d s) (st : Store) (seen : Seen d s n st
   unfolding isOpenAt
   append-sight k e len start is =
       let a = append-row k e true len start is in
-      record { place = 16; found = find-open d s o k 16 (omega arith) (a .runs) (a .own); view = shown-as (seenBy s 16 p) len start (a .view) }
+      record { place = 16; found = find-transaction d s o k 16 (record { low = omega arith; opened = a .runs; number = a .own }); view = shown-as (seenBy s 16 p) len start (a .view) }
 
   module _ (starts : CutStarts s) where
     -- the list's start
@@ -204,13 +177,13 @@ module _ (d s n : List ℕ) (o : Orderly d s) (st : Store) (seen : Seen d s n st
     cut-sight k len listed is =
         let a = writer-cuts (transactionOf s 16 .kind) (transactionOf s 16 .number) (transactionOf s 16 .epoch) _ k len (own ∙ is) in
         let list : shown (viewOf s 17 p) ≡ record { listed = st .listed; len = st .len; start = st .start } = ap (viewIn s 17) (sym at) ∙ seen .list in
-        let whole : viewOf s 17 p ≡ shown (viewOf s 17 p) = shown-whole (viewOf s 17 p) (ap (λ (x : View). x .listed) list ∙ listed) in
+        let whole : viewOf s 17 p ≡ shown (viewOf s 17 p) = shown-listed (viewOf s 17 p) (shown (viewOf s 17 p)) refl (ap (λ (x : View). x .listed) list ∙ listed) .1 in
         let began : viewOf s 16 p ≡ record { listed = st .listed; len = st .len; start = st .start } = o .writer-view (a .runs) p (found-low s namesAt n p at) ∙ whole ∙ list in
         let (here, start) = cut-seen (a .kind) (ap (λ (x : View). x .listed) began ∙ listed) in
         let first : seenBy s 16 p .start ≡ st .start = start ∙ ap (λ (x : View). x .start) began in
-        let long : seenBy s 16 p .len ≡ len = ap (λ (x : View). x .len) (shown-whole (seenBy s 16 p) (rw here)) ∙ a .len in
+        let long : seenBy s 16 p .len ≡ len = ap (λ (x : View). x .len) (shown-listed (seenBy s 16 p) (shown (seenBy s 16 p)) refl (rw here) .1) ∙ a .len in
         record {
-          found = find-open d s o k 16 (omega arith) (a .runs) (a .own);
+          found = find-transaction d s o k 16 (record { low = omega arith; opened = a .runs; number = a .own });
           writer = and-both (isTruncate (transactionOf s 16 .kind)) (eqb (transactionOf s 16 .number) k) (a .kind) (eq-eqb (transactionOf s 16 .number) k (a .own));
           view = λ i. record { listed = here i; len = long i; start = first i };
         }
@@ -316,7 +289,7 @@ module _ (d s n : List ℕ) (letters : 0 < length n) (o : Orderly d s) (t : Told
       (λ a place g e.
       let same : a ≡ w = same-place (findHandle s h) a w (g .found) (tape .found) in
       let seen-so : seenBy s 16 w .listed ≡ true = subst (λ (x : ℕ). seenBy s 16 x .listed ≡ true) same (g .on .listed) in
-      let whole : seenBy s 16 w ≡ shown (seenBy s 16 w) = shown-whole (seenBy s 16 w) (rw seen-so) in
+      let whole : seenBy s 16 w ≡ shown (seenBy s 16 w) = shown-listed (seenBy s 16 w) (shown (seenBy s 16 w)) refl (rw seen-so) .1 in
       let len : touchedAs s w .len ≡ length c = sym (seen-touched s w) ∙ ap (λ (x : View). x .len) (whole ∙ row .view) in
       (cc) ∙ ap (λ (x : ℕ). touchedAs s x .len / entrySize s x) same ∙ rw (len, tape .entry-size))
 

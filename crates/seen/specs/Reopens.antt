@@ -2,14 +2,13 @@
 -- tape that sleeps on the disk, or of a new one. Assumes nothing.
 use mathlib.Core.Path.{_≡_, refl, sym, ap, subst, _∙_}
 use mathlib.Core.Logic.{_≢_}
-use mathlib.Core.Bool.{Bool, true, false, true≢false, false≢true, cond}
+use mathlib.Core.Bool.{Bool, true, false, true≢false, cond}
 use mathlib.Core.List.{List}
 use Prim.Native.Nat.{ℕ, _+_, _-_, _%_, _≤_, _<_, max}
 use native.Mathlib.Omega.{arith}
 use borrow.Author.Tests.{eq-eqb, le-leb}
-use lib.Dec.{eqb}
 use lib.ListN.{length, take, drop}
-use Rattle.octets.specs.Cases.{decide, and-l}
+use Rattle.octets.specs.Cases.{decide}
 use Rattle.octets.specs.Compare.{sameBytes}
 use Rattle.octets.specs.Number.{Bytes}
 use Rattle.octets.specs.declared.Found.{Found}
@@ -29,19 +28,17 @@ use Rattle.layout.specs.SessionLaws.{→sound}
 use Rattle.held.specs.Held.{load}
 use Rattle.held.specs.OpenLaws.{load-kept}
 use Rattle.session.specs.declared.head.Head.{Head}
-use Rattle.session.specs.declared.transactions.Kind.{Kind}
 use Rattle.session.specs.declared.transactions.Kind.the-variants as K
 use Rattle.session.specs.declared.views.View.{View}
 use Rattle.session.specs.Meaning.{noView}
-use Rattle.session.specs.MeaningLaws.{isOpen}
-use Rattle.session.specs.Rows.{headOf, viewOf, transactionOf}
+use Rattle.session.specs.Rows.{headOf, viewOf}
 use Rattle.rolling_tape.specs.ReadingLaws.{canRead-none}
 use Rattle.rolling_tape.specs.Room.{isFound}
 use Rattle.beginning.specs.Transactions.{After, isOpenAt}
 use Rattle.beginning.specs.Sessions.{startWith, storeCall}
 use Rattle.beginning.specs.Calls.{appendCall}
 use Rattle.beginning.specs.Ways.{both-by-session, store-starts, append-uncut, begins-at}
-use Rattle.staging.specs.Seeing.{isAppend, writes}
+use Rattle.staging.specs.Seeing.{writes}
 use Rattle.opening.specs.declared.shape.Opening.{Opening}
 use Rattle.opening.specs.Shape.{METADATA, openingOf, shapeOf}
 use Rattle.opening.specs.Ways.{opening-new, shape-good, ninth-listed}
@@ -58,6 +55,8 @@ use Rattle.seen.specs.Seen.{placeOf, shown, viewIn, liveIn, filesIn, See
 use Rattle.seen.specs.Orderly.{Orderly}
 use Rattle.seen.specs.Proper.{Proper}
 use Rattle.seen.specs.Places.{found-low, found-name}
+pub use Rattle.seen.specs.Kinds.{writes-open}
+use Rattle.seen.specs.Shown.{shown-listed}
 use Rattle.seen.specs.Closes.{orderly-usable}
 use Rattle.seen.specs.Restarts.{orderly-disk, shut-stored, store-orderly}
 
@@ -97,32 +96,18 @@ append-after-store d s o = append-after-store-in d s s o (→sound s (o .session
 
 -- ---- an open
 
-append-open : (k : Kind) → isAppend k ≡ true → isOpen k ≡ true
-append-open K.Closed e = absurd (false≢true e)
-append-open K.Reader e = absurd (false≢true e)
-append-open K.Append e = refl
-append-open K.Truncate e = absurd (false≢true e)
-
-pub writes-open : (s : List ℕ) (k : ℕ) → writes s k ≡ true → isOpenAt s 16 ≡ true
-unfolding writes isOpenAt
-writes-open s k w = append-open (transactionOf s 16 .kind) (and-l (isAppend (transactionOf s 16 .kind)) (eqb (transactionOf s 16 .number) k) w)
-
 -- a tape without a handle is not open
-shut-seen : (s : List ℕ) (f : Found) → liveIn s f ≡ false → isOpenTape s f ≡ false
+pub shut-seen : (s : List ℕ) (f : Found) → liveIn s f ≡ false → isOpenTape s f ≡ false
 shut-seen s (At p) e = e
 shut-seen s Nothing e = e
 
 -- what a view that is shown as listed is
 listed-view : (x : View) (li : Bool) (l f : ℕ) → shown x ≡ record { listed = li; len = l; start = f } → li ≡ true → x ≡ record { listed = true; len = l; start = f }
-listed-view x li l f e listed =
-    decide (x .listed)
-    (λ (y : x .listed ≡ true). sym (ap (λ (b : Bool). cond b x noView) y) ∙ e ∙ ap (λ (b : Bool). record { listed = b; len = l; start = f }) listed)
-    (λ (y : x .listed ≡ false).
-    absurd (true≢false (sym listed ∙ sym (ap (λ (z : View). z .listed) (sym (ap (λ (b : Bool). cond b x noView) y) ∙ e)))))
+listed-view x li l f e listed = shown-listed x _ e listed .1 ∙ ap (λ (b : Bool). record { listed = b; len = l; start = f }) listed
 
 -- a name and sizes that are in range
 module _ (n : List ℕ) (o : Opening) (named : nameRule n ≡ true) (other : sameBytes n METADATA ≡ false) where
-  shaped : 1 ≤ o .entry → o .entry ≤ 256 → 1 ≤ o .«file_size» → o .«file_size» ≤ 4096 → 1 ≤ o .cache → o .cache ≤ 4096
+  pub shaped : 1 ≤ o .entry → o .entry ≤ 256 → 1 ≤ o .«file_size» → o .«file_size» ≤ 4096 → 1 ≤ o .cache → o .cache ≤ 4096
       → o .len % o .entry ≡ 0 → o .start % o .entry ≡ 0 → shapeOf n o ≡ Done 0
   shaped entry-some entry-small file-some file-small cache-some cache-small len-whole start-whole =
       shape-good n o named (rw (le-leb 1 (o .entry) entry-some, le-leb (o .entry) 256 entry-small))
@@ -144,12 +129,12 @@ module _ (d s n : List ℕ) (orderly : Orderly d s) (k entry fs cache start : �
 
 module _ (d s n : List ℕ) (orderly : Orderly d s) (st : Store) (seen : Seen d s n st) (listed : st .listed ≡ true) where
   -- its place, and what the list says of it
-  record Known : Type 0 where
-    place : ℕ
-    found : placeOf s n ≡ At place
-    view : viewOf s 17 place ≡ record { listed = true; len = st .len; start = st .start }
+  pub record Known : Type 0 where
+    pub place : ℕ
+    pub found : placeOf s n ≡ At place
+    pub view : viewOf s 17 place ≡ record { listed = true; len = st .len; start = st .start }
 
-  known : Known
+  pub known : Known
   known = by (placeOf s n) refl (seen .list)
     where
       by : (f : Found) → placeOf s n ≡ f → viewIn s 17 f ≡ record { listed = st .listed; len = st .len; start = st .start } → Known
@@ -157,7 +142,7 @@ module _ (d s n : List ℕ) (orderly : Orderly d s) (st : Store) (seen : Seen d 
       by Nothing e list = absurd (true≢false (sym listed ∙ sym (ap (λ (v : View). v .listed) list)))
 
   -- what is opened has the list's length and start
-  opened-known : isOpenAt s 16 ≡ true → (entry fs cache start : ℕ)
+  pub opened-known : isOpenAt s 16 ≡ true → (entry fs cache start : ℕ)
       → opened s n entry fs cache start
       ≡ record { entry = entry; «file_size» = fs; cache = cache; listed = true; len = st .len; start = st .start }
   unfolding openingOf
@@ -168,11 +153,11 @@ module _ (d s n : List ℕ) (orderly : Orderly d s) (st : Store) (seen : Seen d 
       ∙ ap (λ (v : View). openingOf v entry fs cache start) (orderly .writer-view writer q low ∙ known .view)
 
   -- its directory
-  record Housed : Type 0 where
-    directory : ℕ
-    there : findName d directories n ≡ At directory
+  pub record Housed : Type 0 where
+    pub directory : ℕ
+    pub there : findName d directories n ≡ At directory
 
-  home : Proper d s → Housed
+  pub home : Proper d s → Housed
   home proper = by (findName d directories n) refl
     where
       by : (f : Found) → findName d directories n ≡ f → Housed
@@ -184,7 +169,7 @@ module _ (d s n : List ℕ) (orderly : Orderly d s) (st : Store) (seen : Seen d 
           absurd (true≢false (sym house ∙ nowhere))
 
 -- its files hold what its cache is filled with: they are on the disk, tracked or not
-can-fill : (d s n : List ℕ) → Orderly d s → (t : Told) (p : Phys) → Dormant t p → Seen d s n (build t p) → (i : ℕ) → findName d directories n ≡ At i
+pub can-fill : (d s n : List ℕ) → Orderly d s → (t : Told) (p : Phys) → Dormant t p → Seen d s n (build t p) → (i : ℕ) → findName d directories n ≡ At i
     → (entry cache : ℕ)
     → canFill d s n (record { entry = entry; «file_size» = t .size; cache = cache; listed = true; len = length (t .content); start = t .start }) ≡ true
 can-fill d s n orderly t p dormant seen i there entry cache =

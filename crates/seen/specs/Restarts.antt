@@ -32,7 +32,6 @@ use Rattle.session.specs.Meaning.{Session, noView, closed, noHandle, untouched,
 use Rattle.session.specs.MeaningLaws.{name-at, view-at, transaction-at, handle-at, staged-at}
 use Rattle.session.specs.Rows.{viewOf, transactionOf, handleOf, stagedOf}
 use Rattle.session.specs.declared.head.Head.{Head}
-use Rattle.session.specs.declared.tape_rows.Handle.{Handle}
 use Rattle.session.specs.declared.tape_rows.Staged.{Staged}
 use Rattle.session.specs.declared.tracking.Tracking.{Tracking}
 use Rattle.session.specs.declared.tracking.Tracking.the-variants.{Untracked}
@@ -50,6 +49,7 @@ use Rattle.lives.specs.Life as Life
 use Rattle.seen.specs.Seen.{placeOf, shown, viewIn, readerIn, writerIn, touchedIn, liveIn, handleIn, filesIn, filesFor, countIn, countOpen, Seen, Handled}
 use Rattle.seen.specs.Orderly.{listedAs, Recorded, Orderly}
 use Rattle.seen.specs.Places.{found-low, found-name, not-found}
+use Rattle.seen.specs.Rows.{number-of, shut-row}
 use Rattle.seen.specs.Lists.{wordOf, listed-hit, listed-miss}
 
 -- ---- a list that may be stored: names are not empty, and none occurs twice
@@ -132,11 +132,11 @@ module _ (d s : List ℕ) (bytes : Bytes d) (served : codeOf (storeCall d s .ans
   few = good-few ts (list-good (theRecord d) ts (store-reads d s served .is))
 
   -- its rows
-  name-stored : (p : ℕ) → p < 8 → name u namesAt p ≡ nameOf (getElem? ts p)
+  pub name-stored : (p : ℕ) → p < 8 → name u namesAt p ≡ nameOf (getElem? ts p)
   unfolding started
   name-stored p low = sym (name-at u p low) ∙ ap (λ (m : Session). m .name p) means
 
-  list-stored : (p : ℕ) → p < 8 → viewOf u 17 p ≡ viewFor (getElem? ts p)
+  pub list-stored : (p : ℕ) → p < 8 → viewOf u 17 p ≡ viewFor (getElem? ts p)
   unfolding started
   list-stored p low = sym (view-at u 17 p (omega arith) low) ∙ ap (λ (m : Session). m .view 17 p) means
 
@@ -157,12 +157,10 @@ module _ (d s : List ℕ) (bytes : Bytes d) (served : codeOf (storeCall d s .ans
   tracking-stored = ap (λ (m : Session). m .tracking) means
 
   pub shut-stored : (t : ℕ) → t < 17 → isOpenAt u t ≡ false
-  unfolding isOpenAt
-  shut-stored t low = rw (transaction-stored t low)
+  shut-stored t low = shut-row u t (transaction-stored t low)
 
   pub number-stored : (p : ℕ) → p < 8 → handleNumber u p ≡ 0
-  unfolding handleOf
-  number-stored p low = ap (λ (h : Handle). h .number) (handle-stored p low)
+  number-stored p low = number-of u p noHandle (handle-stored p low)
 
   pub untouched-stored : (p : ℕ) → p < 8 → stagedOf u p .touched ≡ false
   untouched-stored p low = ap (λ (r : Staged). r .touched) (staged-stored p low)
@@ -173,7 +171,7 @@ module _ (d s : List ℕ) (bytes : Bytes d) (served : codeOf (storeCall d s .ans
     pub at : getElem? ts p ≡ some tape
     pub has : name u namesAt p ≡ tape .name
 
-  stands : (p : ℕ) → p < 8 → 0 < length (name u namesAt p) → Stands p
+  pub stands : (p : ℕ) → p < 8 → 0 < length (name u namesAt p) → Stands p
   stands p low long = by (getElem? ts p) refl
     where
       by : (o : Option Tape) → getElem? ts p ≡ o → Stands p
@@ -197,7 +195,7 @@ module _ (d s : List ℕ) (bytes : Bytes d) (served : codeOf (storeCall d s .ans
           absurd (omega (arith, ap length same))
 
   -- the list says of every name what the session says
-  list-says : (n : List ℕ) → 0 < length n → listedAs n ts ≡ viewIn u 17 (placeOf u n)
+  pub list-says : (n : List ℕ) → 0 < length n → listedAs n ts ≡ viewIn u 17 (placeOf u n)
   list-says n long = by (placeOf u n) refl
     where
       by : (found : Found) → placeOf u n ≡ found → listedAs n ts ≡ viewIn u 17 found

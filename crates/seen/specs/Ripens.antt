@@ -46,9 +46,6 @@ module _ (a : Areas) (start : Whole a) (apart : Apart (a .disk) (a .session)) (b
     whole-b : Whole b
     whole-b = whole-kept a start b (at .kept)
 
-    same-directory : directoryOf (b .disk) (b .session) p ≡ directoryOf (a .disk) (a .session) p
-    same-directory = directory-kept a b start (at .kept) p low
-
     same-lowest : fileOf (fileSize (b .session) p) (viewOf (b .session) 17 p .start) ≡ lowest p
     same-lowest =
         ap (λ (n : ℕ). fileOf n (viewOf (b .session) 17 p .start)) (fileSize-kept (a .session) (b .session) (at .kept .only) p low)
@@ -60,13 +57,13 @@ module _ (a : Areas) (start : Whole a) (apart : Apart (a .disk) (a .session)) (b
         decide (isTouched (a .session) p)
         (λ (t : isTouched (a .session) p ≡ true).
         let none : directoryOf (a .disk) (a .session) p ≡ Nothing = rw t at e in
-        rw (touched-kept a b start (at .kept) p low ∙ t, same-directory ∙ none))
+        rw (touched-kept a b start (at .kept) p low ∙ t, directory-kept a b start (at .kept) p low ∙ none))
         (λ (t : isTouched (a .session) p ≡ false). rw (touched-kept a b start (at .kept) p low ∙ t))
 
     module _ (place : ℕ) (e : owner p ≡ At place) where
       turn-at : ripenTape began oldest p b ≡ ripenedAt b began oldest p place
       unfolding ripenTape
-      turn-at = rw (touched-kept a b start (at .kept) p low ∙ place-touched (a .disk) (a .session) p place e, same-directory ∙ place-directory (a .disk) (a .session) p place e)
+      turn-at = rw (touched-kept a b start (at .kept) p low ∙ place-touched (a .disk) (a .session) p place e, directory-kept a b start (at .kept) p low ∙ place-directory (a .disk) (a .session) p place e)
 
       changed : Changed b (ripenTape began oldest p b) place (change p (filesAt b place))
       changed = rw turn-at (rw same-lowest at (changed-ripened b began oldest p place whole-b fits (at .once)))

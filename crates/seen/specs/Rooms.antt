@@ -24,9 +24,7 @@ use Rattle.metadata.specs.declared.list.TapeList.{TapeList}
 use Rattle.metadata.specs.Struct.{listOf, storable}
 use Rattle.disk.specs.Steps.{files}
 use Rattle.session.specs.declared.tape_rows.Staged.{Staged}
-use Rattle.session.specs.declared.transactions.Kind.{Kind}
-use Rattle.session.specs.declared.transactions.Kind.the-variants.{Closed, Reader, Append, Truncate}
-use Rattle.session.specs.MeaningLaws.{isOpen}
+use Rattle.session.specs.declared.transactions.Kind.the-variants.{Truncate}
 use Rattle.session.specs.Rows.{headOf, viewOf, transactionOf, handleOf, stagedOf, findTransaction, freeReader}
 use Rattle.beginning.specs.Calls.{appendCall, readerCall}
 use Rattle.beginning.specs.Ways.{free-low}
@@ -47,17 +45,13 @@ use Rattle.touches.specs.Begins.{append-leaves, reader-touches, reader-leaves}
 use Rattle.touches.specs.Drops.{drop-reader-touches}
 use Rattle.touches.specs.Rows.{view-stays, transaction-stays, handle-stays, staged-stays, name-stays}
 use Rattle.seen.specs.Orderly.{Orderly}
-use Rattle.seen.specs.Frames.{frame-folder, frame-number, number-row}
+use Rattle.seen.specs.Rows.{number-row}
+use Rattle.seen.specs.Kinds.{append-open}
+use Rattle.seen.specs.Frames.{frame-folder, frame-number}
 use Rattle.seen.specs.Touching.{touched-row, writes-kind, cuts-kind}
 use Rattle.seen.specs.Stages.{shift-found, shift-on, shift-becomes, shiftedRow}
 use Rattle.seen.specs.Cuts.{CutsTo, cuts-on}
 use Rattle.seen.specs.Lacking.{SameLack, same-lacking, all-lacking, idle-lacking}
-
-append-open : (k : Kind) → isAppend k ≡ true → isOpen k ≡ true
-append-open Closed e = absurd (true≢false (sym e))
-append-open Reader e = refl
-append-open Append e = refl
-append-open Truncate e = refl
 
 -- an open append has room for every file that its staged bytes lack
 abbrev pub Roomy : List ℕ → List ℕ → Type 0

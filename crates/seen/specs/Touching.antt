@@ -1,34 +1,33 @@
 -- The tape that the writer stages: what the model's writer is, and what is seen of the tape once its staged record is another one. Assumes nothing.
 use mathlib.Core.Path.{_≡_, refl, sym, ap, _∙_, subst}
 use mathlib.Core.Logic.{_≢_}
-use mathlib.Core.Bool.{Bool, true, false, cond, true≢false}
+use mathlib.Core.Bool.{Bool, true, cond, true≢false}
 use mathlib.Core.List.{List}
 use Prim.Native.Nat.{ℕ, _<_}
 use native.Mathlib.Omega.{arith}
-use borrow.Author.Tests.{eqb-true}
-use lib.Dec.{eqb}
-use Rattle.octets.specs.Cases.{decide, and-l, and-r}
+use Rattle.octets.specs.Cases.{decide}
 use Rattle.octets.specs.declared.Found.the-variants.{At}
 use Rattle.layout.specs.Session.{namesAt, handleNumber}
 use Rattle.session.specs.declared.head.Head.{Head}
 use Rattle.session.specs.declared.tape_rows.Staged.{Staged}
-use Rattle.session.specs.declared.transactions.Kind.{Kind}
-use Rattle.session.specs.declared.transactions.Kind.the-variants as K
 use Rattle.session.specs.declared.views.View.{View}
 use Rattle.session.specs.Meaning.{noView}
 use Rattle.session.specs.Rows.{viewOf, transactionOf, ringOf, ringBytes, stagedOf}
 use Rattle.beginning.specs.Transactions.{isOpenAt}
-use Rattle.staging.specs.Seeing.{seenBy, touchedAs, isAppend, isTruncate, writes, cuts}
+use Rattle.staging.specs.Seeing.{seenBy, touchedAs, isAppend, writes, cuts}
 use Rattle.staging.specs.Ways.{touched-now}
 use Rattle.appending.specs.CallWays.{seen-touched}
 use Rattle.held.specs.Held.{Held}
 use Rattle.joins.specs.Caches.{AsBefore}
 use Rattle.lives.specs.Life.{Writer, idle, appending, cutting, Store, After, Done, then}
-use Rattle.seen.specs.Seen.{placeOf, shown, viewIn, writerAs, writerIn, touchedIn, filesFor, SeenOpen, Seen, Handled}
+use Rattle.seen.specs.Seen.{placeOf, writerAs, writerIn, touchedIn, filesFor, SeenOpen, Seen, Handled}
 use Rattle.seen.specs.Orderly.{Orderly}
 use Rattle.seen.specs.Places.{found-low}
 use Rattle.seen.specs.Same.{seen-same}
-use Rattle.seen.specs.Frames.{Frame, frame-place, frame-view, frame-live, frame-readers, size-row}
+pub use Rattle.seen.specs.Kinds.{writes-kind, writes-as, cuts-kind, cuts-as, writes-open, cuts-open}
+pub use Rattle.seen.specs.Shown.{shown-listed}
+use Rattle.seen.specs.Rows.{size-row, list-at}
+use Rattle.seen.specs.Frames.{Frame, frame-place, frame-view, frame-live, frame-readers}
 use Rattle.seen.specs.Handles.{handle-apart, live-at}
 
 -- ---- what is shown of a call on a handle
@@ -52,46 +51,6 @@ stagedLen idle = 0
 stagedLen (appending m b here len start) = len
 stagedLen (cutting m len) = len
 
--- ---- the open writer
-
-append-kind : (k : Kind) → isAppend k ≡ true → k ≡ K.Append
-append-kind K.Closed e = absurd (true≢false (sym e))
-append-kind K.Reader e = absurd (true≢false (sym e))
-append-kind K.Append e = refl
-append-kind K.Truncate e = absurd (true≢false (sym e))
-
-truncate-kind : (k : Kind) → isTruncate k ≡ true → k ≡ K.Truncate
-truncate-kind K.Closed e = absurd (true≢false (sym e))
-truncate-kind K.Reader e = absurd (true≢false (sym e))
-truncate-kind K.Append e = absurd (true≢false (sym e))
-truncate-kind K.Truncate e = refl
-
--- the row of an open append, or truncate, with this number
-module _ (s : List ℕ) (k : ℕ) where
-  pub writes-kind : writes s k ≡ true → transactionOf s 16 .kind ≡ K.Append
-  unfolding writes
-  writes-kind w = append-kind (transactionOf s 16 .kind) (and-l (isAppend (transactionOf s 16 .kind)) (eqb (transactionOf s 16 .number) k) w)
-
-  pub writes-as : writes s k ≡ true → transactionOf s 16 .number ≡ k
-  unfolding writes
-  writes-as w = eqb-true (transactionOf s 16 .number) k (and-r (isAppend (transactionOf s 16 .kind)) (eqb (transactionOf s 16 .number) k) w)
-
-  pub cuts-kind : cuts s k ≡ true → transactionOf s 16 .kind ≡ K.Truncate
-  unfolding cuts
-  cuts-kind w = truncate-kind (transactionOf s 16 .kind) (and-l (isTruncate (transactionOf s 16 .kind)) (eqb (transactionOf s 16 .number) k) w)
-
-  pub cuts-as : cuts s k ≡ true → transactionOf s 16 .number ≡ k
-  unfolding cuts
-  cuts-as w = eqb-true (transactionOf s 16 .number) k (and-r (isTruncate (transactionOf s 16 .kind)) (eqb (transactionOf s 16 .number) k) w)
-
-  pub writes-open : writes s k ≡ true → isOpenAt s 16 ≡ true
-  unfolding isOpenAt
-  writes-open w = rw (writes-kind w)
-
-  pub cuts-open : cuts s k ≡ true → isOpenAt s 16 ≡ true
-  unfolding isOpenAt
-  cuts-open w = rw (cuts-kind w)
-
 -- ---- rows that the writer sees
 
 pub seen-start : (s : List ℕ) (p : ℕ) → seenBy s 16 p .start ≡ touchedAs s p .start
@@ -110,13 +69,6 @@ pub seen-row : (s : List ℕ) (p : ℕ) → stagedOf s p .touched ≡ true → s
 unfolding seenBy
 seen-row s p e = rw e
 
--- what is shown of a view that is listed is all of it
-pub shown-listed : (v w : View) → shown v ≡ w → w .listed ≡ true → (v .listed ≡ true) × (v ≡ w)
-shown-listed v w e listed =
-    decide (v .listed)
-    (λ (h : v .listed ≡ true). (h, sym (ap (λ (b : Bool). cond b v noView) h) ∙ e))
-    (λ (h : v .listed ≡ false). absurd (true≢false (sym listed ∙ ap (λ (x : View). x .listed) (sym e ∙ ap (λ (b : Bool). cond b v noView) h))))
-
 -- ---- the tape of a name, open in place p
 
 module _ (d s n : List ℕ) (o : Orderly d s) (p : ℕ) (at : placeOf s n ≡ At p) (held : handleNumber s p ≢ 0) (st : Store) (seen : Seen d s n st) where
@@ -134,16 +86,13 @@ module _ (d s n : List ℕ) (o : Orderly d s) (p : ℕ) (at : placeOf s n ≡ At
   pub cut-writer : (k : ℕ) → cuts s k ≡ true → seenBy s 16 p .listed ≡ true → st .writer ≡ cutting k (touchedAs s p .len)
   cut-writer k w listed = sym (seen .writer) ∙ ap (writerIn s) at ∙ rw (listed, cuts-kind s k w, cuts-as s k w, seen-touched s p)
 
-  list-at : shown (viewOf s 17 p) ≡ record { listed = st .listed; len = st .len; start = st .start }
-  list-at = sym (ap (viewIn s 17) at) ∙ seen .list
-
   -- in a truncate every open tape is listed
   pub cut-listed : (k : ℕ) → cuts s k ≡ true → st .listed ≡ true
   cut-listed k w =
       let there : viewOf s 17 p .listed ≡ true
       = decide (viewOf s 17 p .listed) (λ e. e)
       (λ e. absurd (true≢false (sym (o .made-append p (found-low s namesAt n p at) held e) ∙ ap isAppend (cuts-kind s k w)))) in
-      sym (ap (λ (v : View). v .listed) (sym (ap (λ (b : Bool). cond b (viewOf s 17 p) noView) there) ∙ list-at)) ∙ there
+      sym (ap (λ (v : View). v .listed) (sym (ap (λ (b : Bool). cond b (viewOf s 17 p) noView) there) ∙ list-at d s n st seen p at)) ∙ there
 
   pub its-base : isOpenAt s 16 ≡ true → st .listed ≡ true → touchedAs s p .base ≡ st .len
   its-base writer listed =
@@ -151,7 +100,7 @@ module _ (d s n : List ℕ) (o : Orderly d s) (p : ℕ) (at : placeOf s n ≡ At
       (λ e. ap (λ (r : Staged). r .base) (touched-row s p e) ∙ its-rows .base e listed)
       (λ e.
       sym (ap (λ (r : Staged). r .base) (touched-now s p (stagedOf s p) refl (viewOf s 16 p) refl e))
-      ∙ ap (λ (v : View). v .len) (o .writer-view writer p (found-low s namesAt n p at) ∙ shown-listed (viewOf s 17 p) _ list-at listed .1))
+      ∙ ap (λ (v : View). v .len) (o .writer-view writer p (found-low s namesAt n p at) ∙ shown-listed (viewOf s 17 p) _ (list-at d s n st seen p at) listed .1))
 
 -- ---- once the staged record is another one
 

@@ -8,7 +8,7 @@ use Prim.Native.Nat.{ℕ, zero, suc, _+_, _≤_, _<_}
 use native.Mathlib.Omega.{arith}
 use lib.Dec.{eqb}
 use lib.ListN.{length}
-use Rattle.octets.specs.Cases.{decide, equal, order, and-r}
+use Rattle.octets.specs.Cases.{decide, equal, and-r}
 use Rattle.octets.specs.Only.{only-none, only-then}
 use Rattle.octets.specs.Sweep.{sweep}
 use Rattle.octets.specs.declared.Found.{Found}
@@ -28,6 +28,7 @@ use Rattle.ending.specs.CommitMeaning.{touched-only}
 use Rattle.joins.specs.FilesAt.{filesAt}
 use Rattle.seen.specs.Orderly.{Orderly}
 use Rattle.seen.specs.Places.{found-name, find-same}
+use Rattle.seen.specs.Rows.{open-named}
 
 -- ---- a step for each tape, in the tape's own directory
 
@@ -113,9 +114,7 @@ module _ (a b : Areas) (sound : Step.Whole a) (kept : Kept a b) (p : ℕ) (low :
 
 -- no two of them have the same
 pub touched-named : (d s : List ℕ) → Orderly d s → (p : ℕ) → p < 8 → isTouched s p ≡ true → 0 < length (name s namesAt p)
-touched-named d s o p low t =
-    order 0 (length (name s namesAt p)) (λ l. l)
-    (λ (l : length (name s namesAt p) ≤ 0). absurd (touched-held s p t (o .free-shut p low (omega arith))))
+touched-named d s o p low t = open-named d s o p low (touched-held s p t)
 
 abbrev pub Apart : List ℕ → List ℕ → Type 0
 Apart d s = (p q place : ℕ) → p < 8 → q < 8 → touchedPlace d s p ≡ At place → touchedPlace d s q ≡ At place → p ≡ q
