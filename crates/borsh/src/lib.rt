@@ -2,8 +2,15 @@
 // vectors and strings, and through them structs and maps sorted by key.
 //
 // `specs/Encoding.antt` has the rules of the Borsh specification, `specs/Taking.antt` what a reader
-// finds. A reader holds its place in a `Cursor` by value and may stand anywhere: what does not fit
-// is answered and never read. A writer's caller has made room. Proved, and nothing is assumed.
+// finds. A reader (`src/reader.rt`) holds the bytes and its place in them and may stand anywhere: what
+// does not fit is answered and never read. A decoder calls the functions over a slice and a `Cursor`,
+// which make a reader each. A writer's caller has made room. Proved, and nothing is assumed.
+mod reader;
+
+use reader::read_bytes;
+use reader::read_u32;
+use reader::read_u64;
+use reader::reader_at;
 ghost use mathlib.Core.Path.{_≡_};
 ghost use Prim.Native.Nat.{_+_, _≤_, _<_, _^_};
 ghost use lib.Dec.{leb};
@@ -45,10 +52,10 @@ fn has(s: &[u8], at: usize, n: usize) -> bool
     n <= s.len() - at
 }
 
-pub fn take_u32(s: &[u8], c: Cursor) -> TakenNumber
-    ensures { λ r. ⌜ r ≡ takeNumber 4 (now (s .entry)) (c .at) ⌝ }
+// The readers' work, on the slice and the place that a reader holds.
+fn u32_from(s: &[u8], at: usize) -> TakenNumber
+    ensures { λ r. ⌜ r ≡ takeNumber 4 (now (s .entry)) at ⌝ }
 {
-    let at = c.at;
     if has(s, at, 4) {
         TakenNumber::Number(octets::u32_at(s, at) as u64, Cursor { at: at + 4 })
     } else {
@@ -56,10 +63,9 @@ pub fn take_u32(s: &[u8], c: Cursor) -> TakenNumber
     }
 }
 
-pub fn take_u64(s: &[u8], c: Cursor) -> TakenNumber
-    ensures { λ r. ⌜ r ≡ takeNumber 8 (now (s .entry)) (c .at) ⌝ }
+fn u64_from(s: &[u8], at: usize) -> TakenNumber
+    ensures { λ r. ⌜ r ≡ takeNumber 8 (now (s .entry)) at ⌝ }
 {
-    let at = c.at;
     if has(s, at, 8) {
         TakenNumber::Number(octets::u64_at(s, at), Cursor { at: at + 8 })
     } else {
@@ -84,15 +90,34 @@ pub fn take_array(s: &[u8], c: Cursor, n: usize) -> TakenBytes
 }
 
 // A byte vector or a string: its length, and its bytes.
-pub fn take_vec(s: &[u8], c: Cursor) -> TakenBytes
-    ensures { λ r. ⌜ r ≡ takeVec (now (s .entry)) (c .at) ⌝ }
+fn vec_from(s: &[u8], at: usize) -> TakenBytes
+    ensures { λ r. ⌜ r ≡ takeVec (now (s .entry)) at ⌝ }
 {
-    let at = c.at;
     if has(s, at, 4) {
         take_array(s, Cursor { at: at + 4 }, octets::u32_at(s, at) as usize)
     } else {
         TakenBytes::ShortBytes
     }
+}
+
+// By a reader that stands at the cursor's place. The parameters are plain, so whoever calls these is
+// covered and needs no walk by hand.
+pub fn take_u32(s: &[u8], c: Cursor) -> TakenNumber
+    ensures { λ r. ⌜ r ≡ takeNumber 4 (now (s .entry)) (c .at) ⌝ }
+{
+    read_u32(reader_at(s, c.at))
+}
+
+pub fn take_u64(s: &[u8], c: Cursor) -> TakenNumber
+    ensures { λ r. ⌜ r ≡ takeNumber 8 (now (s .entry)) (c .at) ⌝ }
+{
+    read_u64(reader_at(s, c.at))
+}
+
+pub fn take_vec(s: &[u8], c: Cursor) -> TakenBytes
+    ensures { λ r. ⌜ r ≡ takeVec (now (s .entry)) (c .at) ⌝ }
+{
+    read_bytes(reader_at(s, c.at))
 }
 
 pub fn put_u32(s: &mut [u8], c: Cursor, v: u32) -> Cursor

@@ -1,44 +1,27 @@
--- `borsh::take_u32` answers `takeNumber 4`: its two ways out are those of `has`. Assumes nothing.
-use mathlib.Core.Path.{sym, ap, _∙_}
-use Prim.Native.Nat.{ℕ, _+_, _≤_}
-use native.Mathlib.Omega.{arith}
-use borrow.Author.Needs.{needs}
-use borrow.Author.Tests.{leb-true, leb-false}
-use lib.ListN.{length}
-use Rattle.borsh.specs.declared.TakenNumber.the-variants.{Number}
-use Rattle.borsh.specs.Taking.{cursor}
-use Rattle.borsh.specs.Back.{take-number-fits, take-number-short}
-use Rattle.borsh.proofs.take_u32.Statement.{statement}
-use Rattle.borsh.proofs.take_u32.Tie as tie
+-- `borsh::take_u32` meets its contract: a reader is made at the cursor's place, and passed to `read_u32` (`proofs/Placed.antt`). Assumes nothing.
+use contract.Running.{givenOf, tables, tablesOf}
+use denote.Triple.Spec.{tripleOf}
+use denote.Triple.Table.{entered, cited}
+use Rattle.borsh.proofs.Found.{a-number}
+use Rattle.borsh.proofs.Placed.{takes}
+use Rattle.borsh.proofs.reader.reader_at as made
+use Rattle.borsh.proofs.reader.reader_at.Symbol as made-def
+use Rattle.borsh.proofs.reader.reader_at.Symbol.{name as #borsh·reader·reader-at}
+use Rattle.borsh.proofs.reader.reader_at.Met as made-thm
+use Rattle.borsh.proofs.reader.read_u32 as read
+use Rattle.borsh.proofs.reader.read_u32.Symbol as read-def
+use Rattle.borsh.proofs.reader.read_u32.Symbol.{name as #borsh·reader·read-u32}
+use Rattle.borsh.proofs.reader.read_u32.Met as read-thm
+use Rattle.borsh.proofs.take_u32.Key.{name as #borsh·take-u32}
+use Rattle.borsh.proofs.take_u32 as take
+use Rattle.borsh.proofs.take_u32.Statement as stated
+use Rattle.borsh.proofs.take_u32.Code as code
 
-has-requires : tie.Need-has-requires
-has-requires c κs = search needs
-
-u32-at-requires : tie.Need-u32-at-requires
-u32-at-requires c κs = leb-true _ _ (sym (c .before .has .ensures) ∙ c .if1 .taken)
-
-cast-t7 : tie.Need-cast-t7
-cast-t7 c = search needs
-
-add-t8 : tie.Need-add-t8
-add-t8 c =
-    let has = c .before .before .has in
-    let args = c .before .before .before .before .args in
-    let fits : args .c .at + 4 ≤ length (args .s .now) = leb-true _ _ (sym (has .ensures) ∙ c .before .if1 .taken) in
-    omega arith
-
-returns : tie.Need-returns
-returns c =
-    let has = c .before .before .has in
-    let args = c .before .before .before .before .args in
-    ap (λ (v : ℕ). Number v (cursor (args .c .at + 4))) (c .u32-at .ensures)
-    ∙ sym (take-number-fits 4 (args .s .now) (args .c .at) (leb-true _ _ (sym (has .ensures) ∙ c .before .if1 .taken)))
-
-returns-2 : tie.Need-returns-2
-returns-2 c =
-    let has = c .before .has in
-    let args = c .before .before .before .args in
-    sym (take-number-short 4 (args .s .now) (args .c .at) (leb-false _ _ (sym (has .ensures) ∙ c .if1 .left)))
-
-pub take-u32-spec : {M : Type 1} → statement M
-take-u32-spec = tie.close (tie.spec has-requires u32-at-requires cast-t7 add-t8 returns returns-2)
+pub take-u32-spec : {M : Type 1} → stated.statement M
+unfolding code.routine tablesOf
+take-u32-spec 𝓤 H 𝓜 𝓖 𝓡 =
+    entered 𝓤 H (tripleOf 𝓤 H (𝓖 .A) take.signature (take.spec 𝓤 H (𝓖 .A) (𝓜 .mem) (𝓡 .run)))
+    (tables 𝓤 H 𝓜 𝓡 code.env .C) (tables 𝓤 H 𝓜 𝓡 code.env .Λ) #borsh·take-u32 code.function (code.unfolded 𝓤 H 𝓜 𝓡)
+    (takes (a-number 4) #borsh·reader·read-u32 𝓤 H (𝓖 .A) (givenOf 𝓤 H 𝓜 𝓖) (𝓜 .mem) (𝓡 .run) (tablesOf 𝓤 H 𝓜 (tables 𝓤 H 𝓜 𝓡 code.env))
+    (cited 𝓤 H (tripleOf 𝓤 H (𝓖 .A) made.signature (made.spec 𝓤 H (𝓖 .A) (𝓜 .mem) (𝓡 .run))) 𝓜 𝓡 code.env #borsh·reader·reader-at made-def.routine code.calls-borsh·reader·reader-at (made-thm.met 𝓤 H 𝓜 𝓖 𝓡))
+    (cited 𝓤 H (tripleOf 𝓤 H (𝓖 .A) read.signature (read.spec 𝓤 H (𝓖 .A) (𝓜 .mem) (𝓡 .run))) 𝓜 𝓡 code.env #borsh·reader·read-u32 read-def.routine code.calls-borsh·reader·read-u32 (read-thm.met 𝓤 H 𝓜 𝓖 𝓡)))

@@ -1,56 +1,27 @@
--- `borsh::take_vec` answers `takeVec`: the length is read where it stands, and `take_array` answers the rest. Assumes nothing.
-use mathlib.Core.Path.{sym, ap, _∙_}
-use Prim.Native.Nat.{ℕ, _+_, _≤_}
-use native.Mathlib.Omega.{arith}
-use borrow.Author.Needs.{needs}
-use borrow.Author.Tests.{leb-true, leb-false}
-use lib.ListN.{length}
-use Rattle.borsh.specs.Taking.{takeArray}
-use Rattle.borsh.specs.Back.{take-vec-fits, take-vec-short}
-use Rattle.borsh.proofs.take_vec.Statement.{statement}
-use Rattle.borsh.proofs.take_vec.Tie as tie
+-- `borsh::take_vec` meets its contract: a reader is made at the cursor's place, and passed to `read_bytes` (`proofs/Placed.antt`). Assumes nothing.
+use contract.Running.{givenOf, tables, tablesOf}
+use denote.Triple.Spec.{tripleOf}
+use denote.Triple.Table.{entered, cited}
+use Rattle.borsh.proofs.Found.{a-vec}
+use Rattle.borsh.proofs.Placed.{takes}
+use Rattle.borsh.proofs.reader.reader_at as made
+use Rattle.borsh.proofs.reader.reader_at.Symbol as made-def
+use Rattle.borsh.proofs.reader.reader_at.Symbol.{name as #borsh·reader·reader-at}
+use Rattle.borsh.proofs.reader.reader_at.Met as made-thm
+use Rattle.borsh.proofs.reader.read_bytes as read
+use Rattle.borsh.proofs.reader.read_bytes.Symbol as read-def
+use Rattle.borsh.proofs.reader.read_bytes.Symbol.{name as #borsh·reader·read-bytes}
+use Rattle.borsh.proofs.reader.read_bytes.Met as read-thm
+use Rattle.borsh.proofs.take_vec.Key.{name as #borsh·take-vec}
+use Rattle.borsh.proofs.take_vec as take
+use Rattle.borsh.proofs.take_vec.Statement as stated
+use Rattle.borsh.proofs.take_vec.Code as code
 
-has-requires : tie.Need-has-requires
-has-requires c κs = search needs
-
-add-t6 : tie.Need-add-t6
-add-t6 c =
-    let has = c .before .has in
-    let args = c .before .before .before .args in
-    let fits : args .c .at + 4 ≤ length (args .s .now) = leb-true _ _ (sym (has .ensures) ∙ c .if1 .taken) in
-    omega arith
-
-u32-at-requires : tie.Need-u32-at-requires
-u32-at-requires c κs = leb-true _ _ (sym (c .before .has .ensures) ∙ c .if1 .taken)
-
-cast-take-array : tie.Need-cast-take-array
-cast-take-array c = search needs
-
-take-array-requires : tie.Need-take-array-requires
-take-array-requires c κs = search needs
-
-returns : tie.Need-returns
-returns c =
-    let has = c .before .before .before .has in
-    let args = c .before .before .before .before .before .args in
-    c .take-array .ensures
-    ∙ ap (λ (n : ℕ). takeArray n (args .s .now) (args .c .at + 4)) (c .before .u32-at .ensures)
-    ∙ sym (take-vec-fits (args .s .now) (args .c .at) (leb-true _ _ (sym (has .ensures) ∙ c .before .before .if1 .taken)))
-
-returns-2 : tie.Need-returns-2
-returns-2 c =
-    let has = c .before .has in
-    let args = c .before .before .before .args in
-    sym (take-vec-short (args .s .now) (args .c .at) (leb-false _ _ (sym (has .ensures) ∙ c .if1 .left)))
-
-pub take-vec-spec : {M : Type 1} → statement M
-take-vec-spec =
-    tie.close
-    (tie.spec
-    has-requires
-    add-t6
-    u32-at-requires
-    cast-take-array
-    take-array-requires
-    returns
-    returns-2)
+pub take-vec-spec : {M : Type 1} → stated.statement M
+unfolding code.routine tablesOf
+take-vec-spec 𝓤 H 𝓜 𝓖 𝓡 =
+    entered 𝓤 H (tripleOf 𝓤 H (𝓖 .A) take.signature (take.spec 𝓤 H (𝓖 .A) (𝓜 .mem) (𝓡 .run)))
+    (tables 𝓤 H 𝓜 𝓡 code.env .C) (tables 𝓤 H 𝓜 𝓡 code.env .Λ) #borsh·take-vec code.function (code.unfolded 𝓤 H 𝓜 𝓡)
+    (takes a-vec #borsh·reader·read-bytes 𝓤 H (𝓖 .A) (givenOf 𝓤 H 𝓜 𝓖) (𝓜 .mem) (𝓡 .run) (tablesOf 𝓤 H 𝓜 (tables 𝓤 H 𝓜 𝓡 code.env))
+    (cited 𝓤 H (tripleOf 𝓤 H (𝓖 .A) made.signature (made.spec 𝓤 H (𝓖 .A) (𝓜 .mem) (𝓡 .run))) 𝓜 𝓡 code.env #borsh·reader·reader-at made-def.routine code.calls-borsh·reader·reader-at (made-thm.met 𝓤 H 𝓜 𝓖 𝓡))
+    (cited 𝓤 H (tripleOf 𝓤 H (𝓖 .A) read.signature (read.spec 𝓤 H (𝓖 .A) (𝓜 .mem) (𝓡 .run))) 𝓜 𝓡 code.env #borsh·reader·read-bytes read-def.routine code.calls-borsh·reader·read-bytes (read-thm.met 𝓤 H 𝓜 𝓖 𝓡)))
