@@ -1,7 +1,9 @@
-// Where the held bytes stand, how many they are, and which of the tape's they are.
+// Where the held bytes stand, how many they are, and which of the tape's they are. The steps that have
+// a form in `lent.rt` lend their ring to it.
+use crate::lent;
 use std::num::wrapping_add_u64;
 ghost use mathlib.Core.Path.{_≡_};
-ghost use Prim.Native.Nat.{_-_, _≤_, _<_};
+ghost use Prim.Native.Nat.{_≤_, _<_};
 ghost use Rattle.ring_buffer.specs.Ring.{fresh, resetTo, pushed, popped, truncated, prepared, lastHeld};
 
 pub struct RingBuffer {
@@ -14,16 +16,6 @@ pub struct RingBuffer {
     // The index in the tape of the first held byte, from which on reads are the cache's; of an empty
     // ring it may lie above the tape's length.
     pub first: u64,
-}
-
-// How far a lies above b; 0 where it does not.
-fn above(a: u64, b: u64) -> u64
-    ensures { λ r. ⌜ r ≡ a - b ⌝ }
-{
-    if a < b {
-        return 0;
-    }
-    a - b
 }
 
 impl RingBuffer {
@@ -57,23 +49,9 @@ impl RingBuffer {
         requires { ⌜ (self .start < self .capacity) × ((self .len ≤ self .capacity) × ((n ≤ self .capacity) × (self .capacity ≤ 4096))) ⌝ }
         ensures { λ r. ⌜ r ≡ pushed self n missed ⌝ }
     {
-        let capacity = self.capacity;
-        let all = self.len + n;
-        if all <= capacity {
-            return RingBuffer {
-                capacity: capacity,
-                start: self.start,
-                len: all,
-                first: wrapping_add_u64(self.first, missed),
-            };
-        }
-        let over = all - capacity;
-        RingBuffer {
-            capacity: capacity,
-            start: (self.start + over) % capacity,
-            len: capacity,
-            first: wrapping_add_u64(wrapping_add_u64(self.first, over as u64), missed),
-        }
+        let mut ring = self;
+        lent::push_lent(&mut ring, n, missed);
+        ring
     }
 
     // The ring after an amount of bytes was taken back from its end; what it does not hold moves its
@@ -81,13 +59,9 @@ impl RingBuffer {
     pub fn pop(self, amount: u64) -> Self
         ensures { λ r. ⌜ r ≡ popped self amount ⌝ }
     {
-        let len = self.len as u64;
-        RingBuffer {
-            capacity: self.capacity,
-            start: self.start,
-            len: above(len, amount) as usize,
-            first: above(self.first, above(amount, len)),
-        }
+        let mut ring = self;
+        lent::pop_lent(&mut ring, amount);
+        ring
     }
 
     // The ring after its tape was cut to a length. Its first index stays, so that an old window
@@ -95,31 +69,18 @@ impl RingBuffer {
     pub fn truncate(self, tape_len: u64) -> Self
         ensures { λ r. ⌜ r ≡ truncated self «tape_len» ⌝ }
     {
-        let room = above(tape_len, self.first);
-        if room < self.len as u64 {
-            return RingBuffer {
-                capacity: self.capacity,
-                start: self.start,
-                len: room as usize,
-                first: self.first,
-            };
-        }
-        self
+        let mut ring = self;
+        lent::truncate_lent(&mut ring, tape_len);
+        ring
     }
 
     // The ring before a write: an empty one takes the tape's length as its first index.
     pub fn prepare_write(self, tape_len: u64) -> Self
         ensures { λ r. ⌜ r ≡ prepared self «tape_len» ⌝ }
     {
-        if self.len == 0 {
-            return RingBuffer {
-                capacity: self.capacity,
-                start: self.start,
-                len: 0,
-                first: tape_len,
-            };
-        }
-        self
+        let mut ring = self;
+        lent::prepare_lent(&mut ring, tape_len);
+        ring
     }
 
     // A ring over the last n of the held bytes alone.
