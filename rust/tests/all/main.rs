@@ -1,0 +1,13 @@
+//! The crate's API, held against document 01's examples, recorded answers, a model of the promise, and the C functions.
+
+mod declared;
+mod examples;
+mod generated;
+mod layout;
+mod lines;
+mod model;
+mod random;
+mod refusals;
+mod script;
+mod scripts;
+mod transactions;
