@@ -4,19 +4,15 @@ use mathlib.Core.Logic.{_≢_}
 use mathlib.Core.Bool.{true, false}
 use mathlib.Core.List.{List}
 use Prim.Native.Nat.{ℕ, _+_, _/_, _%_, _≤_, _<_}
-use native.Mathlib.Omega.{arith}
 use borrow.Author.Tests.{eq-eqb, ne-eqb, lt-ltb, le-ltb}
 use lib.Dec.{eqb}
 use lib.ListN.{length}
-use Rattle.octets.specs.Cases.{decide, and-l, and-both}
+use Rattle.octets.specs.Cases.{decide}
 use Rattle.octets.specs.declared.Found.the-variants.{At, Nothing}
 use Rattle.answers.specs.Outcome.{outcome, refusedAt}
 use Rattle.answers.specs.declared.Answer.the-variants.{Done}
 use Rattle.answers.specs.declared.Refusal.the-variants.{Unusable, Unknown, Absent, NotWhole, TooLarge, NoSlot, Missing}
-use Rattle.layout.specs.Disk as D
-use Rattle.layout.specs.DiskLaws as DL
-use Rattle.layout.specs.Session.{entrySize, ringLen, handleNumber, Begun, begun}
-use Rattle.layout.specs.SessionLaws.{→begun}
+use Rattle.layout.specs.Session.{entrySize}
 use Rattle.session.specs.Rows.{handleOf, stagedOf, findHandle}
 use Rattle.session.specs.declared.tape_rows.Handle.{Handle}
 use Rattle.session.specs.declared.tape_rows.Staged.{Staged}
@@ -30,26 +26,10 @@ use Rattle.appending.specs.Calls.{doneIn, putOn, appendOn, putCall}
 
 -- ---- what is known of a tape
 
-pub usable-sound : (d s : List ℕ) → usable d s ≡ true → D.Sound d
-unfolding usable
-usable-sound d s h = DL.sound→ d (and-l (D.sound d) (begun s) h)
-
-pub →usable : (d s : List ℕ) → D.Sound d → Begun s → usable d s ≡ true
-unfolding usable
-→usable d s disk session = and-both (D.sound d) (begun s) (DL.→sound d disk) (→begun s session)
-
 -- the length that the writer sees is the one that it appends behind
 pub seen-touched : (s : List ℕ) (p : ℕ) → seenBy s 16 p .len ≡ touchedAs s p .len
 unfolding seenBy touchedAs
 seen-touched s p = decide (stagedOf s p .touched) (λ e. rw e) (λ e. rw e)
-
--- the bytes that the files lack are held: a tape that is touched now has none
-pub touched-held : (s : List ℕ) (p : ℕ) → Begun s → p < 8 → handleNumber s p ≢ 0 → touchedAs s p .unwritten ≤ ringLen s p
-unfolding touchedAs stagedOf
-touched-held s p b low held =
-    decide (stagedOf s p .touched)
-    (λ e. rw e (b .tapes p low held .ring .pending))
-    (λ e. rw e (omega arith))
 
 -- ---- the bytes put
 

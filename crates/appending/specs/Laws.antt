@@ -22,17 +22,19 @@ use Rattle.layout.specs.Disk as D
 use Rattle.layout.specs.Session.{entrySize, ringLen, handleNumber, Begun}
 use Rattle.disk.specs.StepLaws.{directory-low}
 use Rattle.session.specs.Rows.{handleOf, findHandle}
-use Rattle.rolling_tape.specs.Removal.{areas}
+use Rattle.session.specs.declared.tape_rows.Staged.{Staged}
+use Rattle.rolling_tape.specs.Removal.{areas, Areas}
 use Rattle.cached_tape.specs.Putting.{putIn}
 use Rattle.cached_tape.specs.PutLaws.{sound-putIn, slots-putIn, begun-putIn, length-putIn-disk, length-putIn-session, bytes-putIn-disk, bytes-putIn-session}
 use Rattle.beginning.specs.Laws.{both-unique}
 use Rattle.beginning.specs.Transactions.{usable}
-use Rattle.beginning.specs.Ways.{usable-begun}
+use Rattle.beginning.specs.Ways.{usable-begun, usable-disk, →usable}
 use Rattle.staging.specs.Seeing.{directoryOf, writes, seenBy, touchedAs}
 use Rattle.staging.specs.Ways.{handle-found}
+use Rattle.staging.specs.Laws.{touched-held}
 use Rattle.appending.specs.Room.{noRoom}
 use Rattle.appending.specs.Calls.{doneIn, putOn, putWhere, appendOn, appendIn, putCall}
-use Rattle.appending.specs.CallWays.{usable-sound, →usable, seen-touched, touched-held, put-room, whole-entry, append-goes, call-goes}
+use Rattle.appending.specs.CallWays.{seen-touched, put-room, whole-entry, append-goes, call-goes}
 
 -- ---- the contract leaves nothing open
 
@@ -123,21 +125,21 @@ put-refused d s t h bs = put-cases Kept d s bs (λ why r. (refl, refl)) t h (λ 
 -- ---- the rules, the lengths and the bytes are kept
 
 -- what a put asks for
-record Ready (d s bs : List ℕ) (p place : ℕ) : Type 0 where
-  sound : D.Sound d
-  begun : Begun s
-  there : place < 8
-  low : p < 8
-  held : handleNumber s p ≢ 0
-  pending : touchedAs s p .unwritten ≤ ringLen s p
-  fits : touchedAs s p .len + length bs < 2 ^ 64
+pub record Ready (a : Areas) (place p : ℕ) (row : Staged) (bs : List ℕ) : Type 0 where
+  pub sound : D.Sound (a .disk)
+  pub begun : Begun (a .session)
+  pub there : place < 8
+  pub low : p < 8
+  pub held : handleNumber (a .session) p ≢ 0
+  pub pending : row .unwritten ≤ ringLen (a .session) p
+  pub fits : row .len + length bs < 2 ^ 64
 
-ready : (d s : List ℕ) (t h : ℕ) (bs : List ℕ) (p place : ℕ) → Goes d s t h bs p place → Ready d s bs p place
+pub ready : (d s : List ℕ) (t h : ℕ) (bs : List ℕ) (p place : ℕ) → Goes d s t h bs p place → Ready (areas d s) place p (touchedAs s p) bs
 ready d s t h bs p place g =
     let b = usable-begun d s (g .sound) in
     let f = handle-found s h p (g .found) in
     record {
-      sound = usable-sound d s (g .sound);
+      sound = usable-disk d s (g .sound);
       begun = b;
       there = directory-low d _ place (g .on .there);
       low = f .low;

@@ -165,8 +165,6 @@ module _ (s : List ℕ) (t : ℕ) (k : Kind) (low : t < 17) where
       (session-putTransaction s t r ready low (record { number = fits .transaction; epoch = fits .epoch }))
       ∙ ap (λ (h : Head). withHead (withViews (withTransaction (sessionOf s) t (record { kind = k; number = h .«last_transaction» + 1; epoch = h .epoch })) t (sessionOf s .view 17)) (nextHead h)) (sym (head-at s))
 
--- ---- whom an append waits for
-
 pub waits-is : (s : List ℕ) (epoch : ℕ) → waitingFor s epoch ≡ count (λ t. isOpen (sessionOf s .transaction t .kind) && ltb (sessionOf s .transaction t .epoch) epoch) 16 0
 unfolding waitingFor isOlder isOpenAt
 waits-is s epoch =

@@ -35,9 +35,9 @@ use Rattle.disk.specs.Steps.{sideAt, sideLen, sideBytes}
 use Rattle.session.specs.declared.views.View.{View}
 use Rattle.session.specs.Rows.{putView}
 use Rattle.session.specs.RowLaws.{only-putView}
-use Rattle.session.specs.KeepLaws.{begun-putName, begun-putView, bytes-putHead, bytes-putView}
+use Rattle.session.specs.KeepLaws.{bytes-putHead, bytes-putView}
 use Rattle.session.specs.Begin.{cleared, listed, listedFrom, beginSession}
-use Rattle.session.specs.BeginLaws.{Listable, AllListable, newHead, started, length-cleared, begun-cleared, session-begin}
+use Rattle.session.specs.BeginLaws.{Listable, AllListable, AllShort, newHead, started, length-cleared, session-begin, begun-begin}
 use Rattle.session.specs.Meaning.{Session, sessionOf}
 use Rattle.beginning.specs.Transactions.{After, after, refused}
 use Rattle.beginning.specs.Sessions.{bothSound, theRecord, startWith, storeCall}
@@ -94,16 +94,14 @@ listable before (u ∷ ts) good sizes zero t e =
     subst Listable same (record { short = f .short; len = omega arith; start = omega arith })
 listable before (u ∷ ts) good sizes (suc i) t e = listable (u .name) ts (good-others before u ts good) (sizes .1) i t e
 
--- its tapes put into their places: the rule needs the names only, and bytes stay bytes
-begun-put : (s : List ℕ) (p : ℕ) (before : List ℕ) (ts : List Tape) → Begun s → p + length ts ≤ 8 → goodAfter before ts ≡ true → Begun (listedFrom s p ts)
-unfolding listedFrom listed
-begun-put s p before [] b few good = b
-begun-put s p before (t ∷ ts) b few good =
-    let f = fits-true before t (good-first before t ts good) in
-    begun-put _ (p + 1) (t .name) ts
-    (begun-putView _ (begun-putName s b p (t .name) (omega arith) (f .short)) 17 p (record { listed = true; len = t .len; start = t .start }) (omega arith) (omega arith))
-    (omega arith) (good-others before t ts good)
+short-names : (before : List ℕ) (ts : List Tape) → goodAfter before ts ≡ true → AllShort ts
+short-names before [] good i t e = let z : _≡_ {A = ℕ} 0 1 = cc in absurd (omega arith)
+short-names before (u ∷ ts) good zero t e =
+    let same : u ≡ t = cc in
+    subst (λ (x : Tape). length (x .name) ≤ 24) same (fits-true before u (good-first before u ts good) .short)
+short-names before (u ∷ ts) good (suc i) t e = short-names (u .name) ts (good-others before u ts good) i t e
 
+-- its tapes put into their places: bytes stay bytes
 bytes-put-list : (s : List ℕ) (p : ℕ) (before : List ℕ) (ts : List Tape) → sessionBytes ≤ length s → Bytes s → p + length ts ≤ 8 → goodAfter before ts ≡ true
     → Bytes (listedFrom s p ts)
 unfolding listedFrom listed
@@ -120,10 +118,6 @@ bytes-put-list s p before (t ∷ ts) long b few good =
     (omega arith) (good-others before t ts good)
 
 module _ (s : List ℕ) (long : sessionBytes ≤ length s) (epoch : ℕ) (side : Side) (ts : List Tape) (good : goodList ts ≡ true) where
-  begun-start : Begun (beginSession s epoch side ts)
-  unfolding beginSession
-  begun-start = begun-put (cleared s epoch side) 0 [] ts (begun-cleared s long epoch side) (omega (arith, good-few ts good)) (good-tapes ts good)
-
   bytes-cleared : Bytes s → Bytes (cleared s epoch side)
   unfolding cleared
   bytes-cleared b =
@@ -166,7 +160,9 @@ module _ (d s : List ℕ) where
   store-begun =
       store-cases (λ o. codeOf (o .answer) ≡ 0 → Begun (o .session)) d s
       (λ why e. absurd (refusal-some why e))
-      (λ ts ok list e. begun-start s (sound-long s (both-session d s ok)) _ _ ts (list-good (theRecord d) ts list))
+      (λ ts ok list e.
+      let good = list-good (theRecord d) ts list in
+      begun-begin s (sound-long s (both-session d s ok)) _ _ ts (good-few ts good) (short-names [] ts (good-tapes ts good)))
 
   pub store-bytes : Bytes s → Bytes (storeCall d s .session)
   store-bytes b =

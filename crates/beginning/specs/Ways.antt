@@ -7,7 +7,7 @@ use Prim.Native.Nat.{ℕ, _+_, _≤_, _<_}
 use native.Mathlib.Omega.{arith}
 use borrow.Author.Tests.{lt-ltb, le-ltb, eq-eqb, ne-eqb}
 use lib.Dec.{ltb}
-use Rattle.octets.specs.Cases.{and-l, and-r}
+use Rattle.octets.specs.Cases.{and-l, and-r, and-both}
 use Rattle.octets.specs.First.{first-hits}
 use Rattle.octets.specs.declared.Found.the-variants.{At, Nothing}
 use Rattle.answers.specs.declared.Answer.the-variants.{Done}
@@ -59,6 +59,14 @@ module _ (d s : List ℕ) where
   pub usable-begun : usable d s ≡ true → S.Begun s
   unfolding usable
   usable-begun h = SL.begun→ s (and-r (D.sound d) (S.begun s) h)
+
+  pub usable-disk : usable d s ≡ true → D.Sound d
+  unfolding usable
+  usable-disk h = DL.sound→ d (and-l (D.sound d) (S.begun s) h)
+
+  pub →usable : D.Sound d → S.Begun s → usable d s ≡ true
+  unfolding usable
+  →usable disk session = and-both (D.sound d) (S.begun s) (DL.→sound d disk) (SL.→begun s session)
 
   pub disk-unsound : D.sound d ≡ false → bothSound d s ≡ false
   unfolding bothSound

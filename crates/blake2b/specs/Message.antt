@@ -10,6 +10,7 @@ use lib.Dec.{leb, ltb}
 use lib.ListN.{length, getD, take, drop, replicate, length-append, length-take, length-drop, length-replicate, List·getD-append, List·getD-eq-default}
 use lib.Seq.{drop-nil, ext-getD, getD-take, getD-drop, getD-append-add}
 use Rattle.octets.specs.Bytes.{put, length-put, getD-put-in, getD-put-other}
+use Rattle.octets.specs.Number.{getD-zeros}
 use Rattle.blake2b.specs.Blake2b.{pad, keyed, blockFrom}
 
 -- the lengths of a key and of a message's two parts whose bytes, the padded key's among them, can be counted in a word with a block to spare
@@ -117,11 +118,6 @@ laid-none block at part from h =
     (λ j l. getD-laid-out block at part from j (λ m. h j (omega (arith, length-laid block at part from)) m))
 
 -- ---- the bytes of a block: those of the data, and zeros behind its end
-
-getD-zeros : (n i : ℕ) → getD (replicate {A = ℕ} n 0) i 0 ≡ 0
-getD-zeros zero i = refl
-getD-zeros (suc n) zero = refl
-getD-zeros (suc n) (suc i) = getD-zeros n i
 
 -- padding reads like what is behind the end of any list
 pub getD-pad : (s : List ℕ) (j : ℕ) → getD (pad s) j 0 ≡ getD s j 0

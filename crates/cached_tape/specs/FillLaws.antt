@@ -14,7 +14,7 @@ use Rattle.ring_buffer.specs.RingLaws.{held-reset, sound-fresh}
 use Rattle.ring_buffer.specs.declared.bookkeeping.RingBuffer.{RingBuffer}
 use Rattle.session.specs.Rows.{handleOf, ringOf, stagedOf, trackingOf, ringBytes, fillRing}
 use Rattle.session.specs.RowLaws.{handle-only, only-putRing, length-putRing, ring-same, ring-only, staged-only, tracking-only, ringBytes-only, length-ringBytes, length-fillRing, only-fillRing, ringBytes-fill}
-use Rattle.session.specs.KeepLaws.{open-row, begun-fillRing, begun-putRing, bytes-putRing, bytes-fillRing}
+use Rattle.session.specs.KeepLaws.{open-with, open-row, begun-fillRing, begun-putRing, bytes-putRing, bytes-fillRing}
 use Rattle.session.specs.declared.tape_rows.Staged.{Staged}
 use Rattle.cached_tape.specs.Filling.{filledWith}
 
@@ -38,20 +38,21 @@ module _ (s : List ℕ) (p capacity first : ℕ) (bs : List ℕ) where
   unfolding filledWith
   length-filled = length-putRing bytes-in p row ∙ length-fillRing s p 0 bs
 
+  -- behind the bytes, its row alone
+  pub only-ring : OnlyIn (tapeAt p + 24) (tapeAt p + 24 + 32) bytes-in (filledWith s p capacity first bs)
+  unfolding filledWith
+  only-ring = only-putRing bytes-in p row
+
   -- ---- what is left alone
 
   module _ (fit : length bs ≤ 4096) where
     only-bytes : OnlyIn (ringAt p) (ringAt p + 4096) s bytes-in
     only-bytes = only-fillRing s p 0 bs (omega arith)
 
-    only-row : OnlyIn (tapeAt p + 24) (tapeAt p + 24 + 32) bytes-in (filledWith s p capacity first bs)
-    unfolding filledWith
-    only-row = only-putRing bytes-in p row
-
     -- every byte but the row's and the ring's
     pub same-filled : (i : ℕ) → (tapeAt p + 24 ≤ i → tapeAt p + 24 + 32 ≤ i) → (ringAt p ≤ i → ringAt p + 4096 ≤ i)
         → getD (filledWith s p capacity first bs) i 0 ≡ getD s i 0
-    same-filled i a b = only-row .same i a ∙ only-bytes .same i b
+    same-filled i a b = only-ring .same i a ∙ only-bytes .same i b
 
     -- the tables before those of the tapes, and the rings behind this one
     pub only-filled : p < 8 → OnlyIn (tapeAt p + 24) (ringAt p + 4096) s (filledWith s p capacity first bs)
@@ -59,23 +60,23 @@ module _ (s : List ℕ) (p capacity first : ℕ) (bs : List ℕ) where
         let t = filledWith s p capacity first bs in
         only-then (tapeAt p + 24) (ringAt p + 4096) s bytes-in t
         (only-wider _ _ _ _ s bytes-in (omega arith) (omega arith) only-bytes)
-        (only-wider _ _ _ _ bytes-in t (omega arith) (omega arith) only-row)
+        (only-wider _ _ _ _ bytes-in t (omega arith) (omega arith) only-ring)
 
     module _ (low : p < 8) (q : ℕ) (there : q < 8) where
       pub handle-filled : handleOf (filledWith s p capacity first bs) q ≡ handleOf s q
-      handle-filled = handle-only _ _ bytes-in _ only-row q (λ l. omega arith) ∙ handle-only _ _ s bytes-in only-bytes q (λ l. omega arith)
+      handle-filled = handle-only _ _ bytes-in _ only-ring q (λ l. omega arith) ∙ handle-only _ _ s bytes-in only-bytes q (λ l. omega arith)
 
       pub staged-filled : stagedOf (filledWith s p capacity first bs) q ≡ stagedOf s q
-      staged-filled = staged-only _ _ bytes-in _ only-row q (λ l. omega arith) ∙ staged-only _ _ s bytes-in only-bytes q (λ l. omega arith)
+      staged-filled = staged-only _ _ bytes-in _ only-ring q (λ l. omega arith) ∙ staged-only _ _ s bytes-in only-bytes q (λ l. omega arith)
 
       pub ring-apart : q ≢ p → ringOf (filledWith s p capacity first bs) q ≡ ringOf s q
-      ring-apart d = ring-only _ _ bytes-in _ only-row q (λ l. omega arith) ∙ ring-only _ _ s bytes-in only-bytes q (λ l. omega arith)
+      ring-apart d = ring-only _ _ bytes-in _ only-ring q (λ l. omega arith) ∙ ring-only _ _ s bytes-in only-bytes q (λ l. omega arith)
 
       pub ringBytes-apart : q ≢ p → ringBytes (filledWith s p capacity first bs) q ≡ ringBytes s q
-      ringBytes-apart d = ringBytes-only _ _ bytes-in _ only-row q (λ l. omega arith) ∙ ringBytes-only _ _ s bytes-in only-bytes q (λ l. omega arith)
+      ringBytes-apart d = ringBytes-only _ _ bytes-in _ only-ring q (λ l. omega arith) ∙ ringBytes-only _ _ s bytes-in only-bytes q (λ l. omega arith)
 
     pub tracking-filled : p < 8 → (i : ℕ) → i < 64 → trackingOf (filledWith s p capacity first bs) i ≡ trackingOf s i
-    tracking-filled low i m = tracking-only _ _ bytes-in _ only-row i (λ l. omega arith) ∙ tracking-only _ _ s bytes-in only-bytes i (λ l. omega arith)
+    tracking-filled low i m = tracking-only _ _ bytes-in _ only-ring i (λ l. omega arith) ∙ tracking-only _ _ s bytes-in only-bytes i (λ l. omega arith)
 
     -- ---- what the ring then is
 
@@ -88,7 +89,7 @@ module _ (s : List ℕ) (p capacity first : ℕ) (bs : List ℕ) where
 
       pub ringBytes-filled : ringBytes (filledWith s p capacity first bs) p ≡ put (ringBytes s p) 0 bs
       ringBytes-filled =
-          ringBytes-only _ _ bytes-in _ only-row p (λ l. omega arith)
+          ringBytes-only _ _ bytes-in _ only-ring p (λ l. omega arith)
           ∙ ringBytes-fill s p 0 bs (omega arith)
 
       pub bytes-filled : Bytes s → Bytes bs → Bytes (filledWith s p capacity first bs)
@@ -98,28 +99,18 @@ module _ (s : List ℕ) (p capacity first : ℕ) (bs : List ℕ) where
           bytes-putRing bytes-in (bytes-fillRing s old p 0 bs new (omega arith) (omega arith)) p row (omega arith)
 
     -- the layout rule is kept: of a tape with a handle the ring has to be one
-    pub begun-filled : Begun s → p < 8 → capacity < 256 ^ 8 → first < 256 ^ 8 → (handleNumber s p ≢ 0 → Suits capacity bs (stagedOf s p))
+    pub begun-filled : Begun s → p < 8 → (handleNumber s p ≢ 0 → Suits capacity bs (stagedOf s p))
         → Begun (filledWith s p capacity first bs)
     unfolding filledWith
-    begun-filled begun low c f suits =
+    begun-filled begun low suits =
         let t = bytes-in in
         let kept = begun-fillRing s begun p 0 bs (omega arith) in
         let number : handleNumber t p ≡ handleNumber s p = numAt-only _ _ s t only-bytes 8 (tapeAt p) (λ l. omega arith) in
         let staged : stagedOf t p ≡ stagedOf s p = staged-only _ _ s t only-bytes p (λ l. omega arith) in
-        begun-putRing t kept p low row (record { capacity = c; start = omega arith; len = omega arith; first = f })
+        begun-putRing t kept p low row
         (λ h.
-        let o = open-row t kept p low h in
         let suit = suits (rw number at h) in
-        record {
-          entry-some = o .entry-some;
-          entry-small = o .entry-small;
-          file-some = o .file-some;
-          file-small = o .file-small;
-          small = suit .small;
-          inside = omega (arith, suit .some);
-          short = suit .within;
-          pending = rw staged (suit .pending);
-        })
+        open-with (open-row t kept p low h) (suit .small) (omega (arith, suit .some)) (suit .within) (rw staged (suit .pending)))
 
 -- the ring holds the bytes that it was filled with
 pub held-filled : (s : List ℕ) (p capacity first : ℕ) (bs : List ℕ) → sessionBytes ≤ length s → p < 8 → 1 ≤ capacity → capacity ≤ 4096 → length bs ≤ capacity → first < 256 ^ 8

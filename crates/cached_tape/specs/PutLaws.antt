@@ -1,5 +1,5 @@
 -- A put through the cache: the ways that the code takes, and that both areas keep their rules, their lengths and their bytes. Assumes nothing.
-use mathlib.Core.Path.{_≡_, refl, _∙_}
+use mathlib.Core.Path.{_≡_, _∙_}
 use mathlib.Core.Logic.{_≢_}
 use mathlib.Core.List.{List}
 use Prim.Native.Nat.{ℕ, _+_, _-_, _≤_, _<_, _^_, min}
@@ -9,18 +9,18 @@ use borrow.Author.Tests.{le-leb, lt-leb, lt-ltb, le-ltb, leb-false, ltb-false}
 use lib.ListN.{length, drop, length-drop}
 use Rattle.octets.specs.Cases.{picked}
 use Rattle.octets.specs.Number.{Bytes, bytes-drop}
-use Rattle.octets.specs.Only.{OnlyIn, only-none, only-then, only-wider}
-use Rattle.octets.specs.Words.{word-at}
+use Rattle.octets.specs.Only.{OnlyIn, only-then, only-wider}
 use Rattle.layout.specs.Disk.{slots, Sound}
 use Rattle.layout.specs.Session.{sessionBytes, tapeAt, ringAt, handleNumber, fileSize, ringLen, Begun}
 use Rattle.ring_buffer.specs.Ring.{over, prepared, pushed, Sound as RingSound}
 use Rattle.ring_buffer.specs.Put.{fills, pushesOut, lastOf, goBy, afterPut, unwrittenAfter, sound-put}
 use Rattle.ring_buffer.specs.declared.bookkeeping.RingBuffer.{RingBuffer}
-use Rattle.session.specs.Rows.{handleOf, ringOf, putRing, pushRing, stagedOf, stagedWords, putStaged}
-use Rattle.session.specs.RowLaws.{RingNumbers, handle-only, only-putRing, length-putRing, ring-same, ring-only, only-putStaged, length-putStaged, only-pushRing, length-pushRing}
-use Rattle.session.specs.KeepLaws.{open-row, by-number, ring-sound, begun-pushRing, begun-tape, bytes-putRing, bytes-putStaged, bytes-pushRing}
+use Rattle.session.specs.Rows.{handleOf, ringOf, putRing, pushRing, stagedOf, putStaged}
+use Rattle.session.specs.RowLaws.{RingNumbers, handle-only, only-putRing, length-putRing, ring-same, ring-only, only-putStaged, length-putStaged, unwritten-same, only-pushRing, length-pushRing}
+use Rattle.session.specs.KeepLaws.{open-with, open-row, by-number, ring-sound, begun-pushRing, begun-tape, bytes-putRing, bytes-putStaged, bytes-pushRing}
 use Rattle.session.specs.declared.tape_rows.Staged.{Staged}
 use Rattle.rolling_tape.specs.Removal.{Areas, areas}
+use Rattle.rolling_tape.specs.Kept.{Kept, kept-none, kept-then}
 use Rattle.cached_tape.specs.Flushing.{wrote, flushed}
 use Rattle.cached_tape.specs.FlushLaws.{pending-ring, begun-kept, ring-kept, number-kept, length-wrote-disk, only-wrote, bytes-wrote-session, sound-wrote, slots-wrote, bytes-wrote-disk, length-flushed-disk, length-flushed-session, only-flushed, bytes-flushed-session, sound-flushed, slots-flushed, bytes-flushed-disk}
 use Rattle.cached_tape.specs.Putting.{sentTo, cachedIn, grown, putIn}
@@ -71,10 +71,6 @@ put-as a place p row bs d s e = rw e
 
 -- ---- what goes to the cache
 
-unwritten-same : (s : List ℕ) (p : ℕ) (r : Staged) → tapeAt p + 56 + 40 ≤ length s → r .unwritten < 256 ^ 8 → stagedOf (putStaged s p r) p .unwritten ≡ r .unwritten
-unfolding stagedOf putStaged
-unwritten-same s p r room f = word-at s (tapeAt p + 56) (stagedWords r) 4 (tapeAt p + 88) room (omega arith) f (omega arith)
-
 -- the bytes that the files lack are held
 after-pending : (r : RingBuffer) (unwritten len : ℕ) (bs : List ℕ) → RingSound r 4096 → unwritten ≤ r .len
     → unwrittenAfter r unwritten (length bs) ≤ afterPut r len bs .len
@@ -95,7 +91,8 @@ first-low : (r : RingBuffer) (len : ℕ) (bs : List ℕ) → afterPut r len bs .
 unfolding afterPut pushed
 first-low r len bs = mod-lt (prepared r len .first + over (prepared r len) (length (lastOf r bs)) + goBy r bs) (omega arith)
 
-ring-numbers : (r : RingBuffer) (len : ℕ) (bs : List ℕ) → RingSound r 4096 → RingNumbers (afterPut r len bs)
+-- the ring's numbers after a put
+pub ring-numbers : (r : RingBuffer) (len : ℕ) (bs : List ℕ) → RingSound r 4096 → RingNumbers (afterPut r len bs)
 ring-numbers r len bs sound =
     let after = sound-put r 4096 len bs sound in
     record {
@@ -147,38 +144,9 @@ module _ (s : List ℕ) (p len : ℕ) (bs : List ℕ) where
       begun-tape (tapeAt p + 24) (tapeAt p + 96) t v only p low (omega arith) (omega arith) (begun-pushRing s begun p (prepared r len) (lastOf r bs) low)
       (rw (same-handle, same-ring)
       (by-number s p new (stagedOf v p)
-      (λ h.
-      let o = open-row s begun p low h in
-      record {
-        entry-some = o .entry-some;
-        entry-small = o .entry-small;
-        file-some = o .file-some;
-        file-small = o .file-small;
-        small = after .small;
-        inside = after .inside;
-        short = after .short;
-        pending = rw same-unwritten few;
-      })))
+      (λ h. open-with (open-row s begun p low h) (after .small) (after .inside) (after .short) (rw same-unwritten few))))
 
 -- ---- what goes to the files changes the disk's files and the session's tracking alone
-
-pub record Kept (a b : Areas) : Type 0 where
-  pub sound : Sound (b .disk)
-  pub long : length (b .disk) ≡ length (a .disk)
-  pub same : slots (b .disk) ≡ slots (a .disk)
-  pub only : OnlyIn 4936 5960 (a .session) (b .session)
-
-kept-none : (a : Areas) → Sound (a .disk) → Kept a a
-kept-none a sound = record { sound = sound; long = refl; same = refl; only = only-none 4936 5960 (a .session) }
-
-kept-then : (a b c : Areas) → Kept a b → Kept b c → Kept a c
-kept-then a b c k l =
-    record {
-      sound = l .sound;
-      long = l .long ∙ k .long;
-      same = l .same ∙ k .same;
-      only = only-then 4936 5960 (a .session) (b .session) (c .session) (k .only) (l .only);
-    }
 
 kept-wrote : (a : Areas) (place fs o : ℕ) (bs : List ℕ) → Sound (a .disk) → place < 8 → 0 < fs → fs ≤ 4096 → o + length bs ≤ 2 ^ 64
     → Kept a (wrote a place fs o bs)

@@ -6,7 +6,6 @@ pub mod Files
 pub mod WriteLaws
 pub mod MarkLaws
 pub mod MarkOrder
-pub mod CleanLaws
 pub mod Epochs
 pub mod EpochsLaws
 pub mod Slots

@@ -132,13 +132,13 @@ ripe-less oldest f (suc k) j l h =
     (λ e. rw e h)
     (λ n. ih (omega arith) (and-r (not (f k .tracked) || markedBelow oldest (f k .mark)) _ h))
 
-ripe-at : (oldest : ℕ) (f : Files) (k j : ℕ) → j < k → f j .tracked ≡ true → ripeBelow oldest f k ≡ true → markedBelow oldest (f j .mark) ≡ true
+pub ripe-at : (oldest : ℕ) (f : Files) (k j : ℕ) → j < k → f j .tracked ≡ true → ripeBelow oldest f k ≡ true → markedBelow oldest (f j .mark) ≡ true
 unfolding ripeBelow
 ripe-at oldest f k j l t h =
     let up : ripeBelow oldest f (suc j) ≡ true = ripe-less oldest f k (suc j) l h in
     rw t at (and-l (not (f j .tracked) || markedBelow oldest (f j .mark)) _ up)
 
-→ripe : (oldest : ℕ) (f : Files) (k : ℕ) → ((j : ℕ) → j < k → f j .tracked ≡ true → markedBelow oldest (f j .mark) ≡ true) → ripeBelow oldest f k ≡ true
+pub →ripe : (oldest : ℕ) (f : Files) (k : ℕ) → ((j : ℕ) → j < k → f j .tracked ≡ true → markedBelow oldest (f j .mark) ≡ true) → ripeBelow oldest f k ≡ true
 unfolding ripeBelow
 →ripe oldest f zero g = refl
 →ripe oldest f (suc k) g =

@@ -72,7 +72,7 @@ pub covered-none : (fs base end : ℕ) → end ≤ base → covered fs base end 
 unfolding covered
 covered-none fs base end h = rw (le-ltb base end h)
 
-covered-some : (fs base end : ℕ) → base < end → covered fs base end ≡ fileOf fs (end - 1) - fileOf fs base + 1
+pub covered-some : (fs base end : ℕ) → base < end → covered fs base end ≡ fileOf fs (end - 1) - fileOf fs base + 1
 unfolding covered
 covered-some fs base end h = rw (lt-ltb base end h)
 

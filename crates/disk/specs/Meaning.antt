@@ -72,9 +72,6 @@ inDirectory d n Nothing = Nothing
 abbrev pub slotNamed : Disk → List ℕ → ℕ → Found
 slotNamed d tape n = inDirectory d n (directoryNamed d tape)
 
-unfoldable pub fileNamed : Disk → List ℕ → ℕ → Option (List ℕ)
-fileNamed d tape n = bytesIn d (slotNamed d tape n)
-
 -- how many files there are
 abbrev pub fileCount : Disk → ℕ
 fileCount d = count (λ i. not (eqb (d .slot i .owner) 0)) (d .slots) 0

@@ -15,7 +15,7 @@ use Rattle.octets.specs.declared.Found.{Found}
 use Rattle.octets.specs.declared.Found.the-variants.{At, Nothing}
 use Rattle.layout.specs.Names.{NamesFit, findName, putName}
 use Rattle.layout.specs.NamesLaws.{fit-only, fit-putName, only-putName, bytes-putName}
-use Rattle.layout.specs.Disk.{directories, entryAt, dataAt, slots, leftLen, rightLen, owner, number, len, HeadSound, Sound}
+use Rattle.layout.specs.Disk.{directories, entryAt, dataAt, slots, leftLen, rightLen, owner, len, HeadSound, Sound}
 use Rattle.metadata.specs.declared.choice.Side.{Side}
 use Rattle.metadata.specs.declared.choice.Side.the-variants.{Left, Right}
 use Rattle.disk.specs.declared.files.Entry.{Entry}
@@ -97,6 +97,22 @@ module _ (low high : ℕ) (s t : List ℕ) (only : OnlyIn low high s t) where
         owners = λ i l. rw (numAt-only low high s t only 8 (entryAt i) (λ q. omega arith)) (sound .owners i (rw count at l));
         lengths = λ i l. rw (numAt-only low high s t only 8 (entryAt i + 16) (λ q. omega arith)) (sound .lengths i (rw count at l));
       }
+
+-- ---- the slot count, where a directory is made or emptied
+
+pub slots-emptyDirectory : (s : List ℕ) (d : ℕ) → slots (emptyDirectory s d) ≡ slots s
+unfolding emptyDirectory
+slots-emptyDirectory s d =
+    sweep-keeps (λ (t : List ℕ). slots t ≡ slots s) (emptySlot d) (slots s) 0 s
+    (λ j t l h p. slots-only _ _ t _ (only-emptySlot d j t) (omega arith) ∙ p) refl
+
+pub slots-addDirectory : (s wanted : List ℕ) → length wanted ≤ 24 → slots (addDirectory s wanted .area) ≡ slots s
+unfolding addDirectory
+slots-addDirectory s wanted small = by (findName s directories [])
+  where
+    by : (f : Found) → slots (addAt s wanted f .area) ≡ slots s
+    by (At d) = slots-only _ _ s _ (only-putName s directories d wanted small) (omega arith)
+    by Nothing = refl
 
 -- ---- the steps keep a disk sound
 

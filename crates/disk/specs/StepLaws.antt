@@ -18,7 +18,7 @@ use Rattle.octets.specs.Cases.{picked, and-l, and-r}
 use Rattle.octets.specs.declared.Found.{Found}
 use Rattle.octets.specs.declared.Found.the-variants.{At, Nothing}
 use Rattle.layout.specs.Names.{findName}
-use Rattle.layout.specs.NamesLaws.{only-putName}
+use Rattle.layout.specs.NamesLaws.{only-putName, name-low}
 use Rattle.layout.specs.Disk.{mark, directories, entryAt, dataAt, slots, owner, number, len}
 use Rattle.metadata.specs.declared.choice.Side.{Side}
 use Rattle.metadata.specs.declared.choice.Side.the-variants.{Left, Right}
@@ -273,8 +273,7 @@ module _ (s : List ℕ) where
 
 module _ (s : List ℕ) where
   pub directory-low : (w : List ℕ) (d : ℕ) → findName s directories w ≡ At d → d < 8
-  unfolding findName
-  directory-low w d e = first-hits _ 8 0 d e .high
+  directory-low w d e = name-low s directories w d e
 
   pub find-low : (d n i : ℕ) → findIn s d n ≡ At i → i < slots s
   unfolding findIn

@@ -48,6 +48,9 @@ removed s i = putEntry s i (record { owner = 0; number = 0; len = 0 })
 abbrev pub isFile : List ℕ → ℕ → ℕ → ℕ → Bool
 isFile s d n i = eqb (owner s i) (d + 1) && eqb (number s i) n
 
+abbrev pub isNot : List ℕ → ℕ → ℕ → ℕ → Bool
+isNot s d n i = not (isFile s d n i)
+
 abbrev pub isFree : List ℕ → ℕ → Bool
 isFree s i = eqb (owner s i) 0
 

@@ -1,7 +1,7 @@
 -- The ways out of the disk's steps, each as the code takes it. Assumes nothing.
 use mathlib.Core.Path.{_≡_, ap, _∙_}
 use mathlib.Core.Logic.{_≢_}
-use mathlib.Core.Bool.{Bool, false}
+use mathlib.Core.Bool.{Bool, true, false}
 use mathlib.Core.List.{List, [], _∷_}
 use Prim.Native.Nat.{ℕ, _+_, _≤_}
 use native.Mathlib.Omega.{arith}
@@ -11,6 +11,7 @@ use lib.ListN.{replicate}
 use Rattle.octets.specs.Bytes.{put}
 use Rattle.octets.specs.Number.{putNum}
 use Rattle.octets.specs.Words.{putWords-none, putWords-more}
+use Rattle.octets.specs.Cases.{decide}
 use Rattle.octets.specs.Compare.{sameBytes}
 use Rattle.octets.specs.declared.Found.the-variants.{At, Nothing}
 use Rattle.layout.specs.Names.{name, findName, putName}
@@ -27,11 +28,13 @@ abbrev pub named : List ℕ → List ℕ → ℕ → Bool
 named s tape i = sameBytes (name s directories i) tape
 
 module _ (s : List ℕ) where
-  pub not-owner : (d n i : ℕ) → owner s i ≢ d + 1 → isFile s d n i ≡ false
-  not-owner d n i h = rw (ne-eqb (owner s i) (d + 1) h)
+  pub not-number : (d n i : ℕ) → number s i ≢ n → isFile s d n i ≡ false
+  not-number d n i h =
+      decide (eqb (owner s i) (d + 1)) (λ (t : eqb (owner s i) (d + 1) ≡ true). rw (t, ne-eqb (number s i) n h)) (λ (f : eqb (owner s i) (d + 1) ≡ false). rw f)
 
-  pub by-number : (d n i : ℕ) → owner s i ≡ d + 1 → isFile s d n i ≡ eqb (number s i) n
-  by-number d n i h = rw (eq-eqb (owner s i) (d + 1) h)
+  pub by-owner : (d n i : ℕ) → number s i ≡ n → isFile s d n i ≡ eqb (owner s i) (d + 1)
+  by-owner d n i h =
+      decide (eqb (owner s i) (d + 1)) (λ (t : eqb (owner s i) (d + 1) ≡ true). rw (t, eq-eqb (number s i) n h)) (λ (f : eqb (owner s i) (d + 1) ≡ false). rw f)
 
 -- ---- steps
 

@@ -2,9 +2,10 @@
 use layout::Disk;
 use octets::Found;
 ghost use mathlib.Core.Path.{_≡_};
-ghost use Prim.Native.Nat.{_+_, _<_};
+ghost use Prim.Native.Nat.{_+_, _-_, _≤_, _<_};
+ghost use Rattle.octets.specs.First.{all, first};
 ghost use Rattle.layout.specs.Disk.{Sound, slots};
-ghost use Rattle.disk.specs.Steps.{isFile, isFree, findIn, findFile, freeSlot, files};
+ghost use Rattle.disk.specs.Steps.{isFile, isNot, isFree, findIn, findFile, freeSlot, files};
 
 // Whether a slot has the file of a directory and a number.
 fn is_file(disk: &[u8], slot: usize, place: usize, number: u64) -> bool
@@ -12,10 +13,44 @@ fn is_file(disk: &[u8], slot: usize, place: usize, number: u64) -> bool
     ensures { λ r. ⌜ r ≡ isFile (now (disk .entry)) place number slot ⌝ }
 {
     let at = Disk::ENTRIES + slot * Disk::ENTRY_BYTES;
-    if octets::u64_at(disk, at) as usize == place + 1 {
-        return octets::u64_at(disk, at + 8) == number;
+    // first the number, which fewer slots share
+    if octets::u64_at(disk, at + 8) == number {
+        return octets::u64_at(disk, at) as usize == place + 1;
     }
     false
+}
+
+// Whether no slot from one on up to another has it.
+fn each_lacks(disk: &[u8], from: usize, to: usize, place: usize, number: u64) -> bool
+    requires { ⌜ Sound (now disk) × ((to ≤ slots (now disk)) × (place < 8)) ⌝ }
+    ensures { λ r. ⌜ r ≡ all (isNot (now (disk .entry)) place number) (to - from) from ⌝ }
+{
+    let mut i = from;
+    while i < to {
+        if is_file(disk, i, place, number) {
+            return false;
+        }
+        i += 1;
+    }
+    true
+}
+
+// Where a search may begin, since no slot before has the file. It goes by eights: a loop of eight
+// turns is unrolled, and a slot with another number costs one test and no more.
+fn search_from(disk: &[u8], place: usize, number: u64) -> usize
+    requires { ⌜ Sound (now disk) × (place < 8) ⌝ }
+    ensures { λ r. ⌜ (r ≤ slots (now (disk .entry))) × (first (isFile (now (disk .entry)) place number) (slots (now (disk .entry)) - r) r ≡ findIn (now (disk .entry)) place number) ⌝ }
+{
+    let count = octets::u64_at(disk, Disk::SLOT_COUNT) as usize;
+    let mut slot = 0;
+    while slot + 8 <= count {
+        if each_lacks(disk, slot, slot + 8, place, number) {
+            slot += 8;
+        } else {
+            return slot;
+        }
+    }
+    slot
 }
 
 fn is_free(disk: &[u8], slot: usize) -> bool
@@ -37,7 +72,7 @@ pub fn find_file(disk: &[u8], name: &[u8], number: u64) -> Found
             break 'search Found::Nothing;
         }
         if layout::has_name(disk, Disk::DIRECTORIES, place, name) {
-            let mut slot = 0;
+            let mut slot = search_from(disk, place, number);
             while slot < count {
                 if is_file(disk, slot, place, number) {
                     break 'search Found::At(slot);
@@ -57,7 +92,7 @@ pub fn find_in(disk: &[u8], place: usize, number: u64) -> Found
     ensures { λ r. ⌜ r ≡ findIn (now (disk .entry)) place number ⌝ }
 {
     let count = octets::u64_at(disk, Disk::SLOT_COUNT) as usize;
-    let mut slot = 0;
+    let mut slot = search_from(disk, place, number);
     while slot < count {
         if is_file(disk, slot, place, number) {
             return Found::At(slot);

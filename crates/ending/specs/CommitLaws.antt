@@ -27,9 +27,8 @@ use Rattle.session.specs.declared.head.Head.{Head}
 use Rattle.rolling_tape.specs.Removal.{Areas, areas}
 use Rattle.beginning.specs.Laws.{both-unique, refusal-some}
 use Rattle.beginning.specs.Transactions.{usable}
-use Rattle.beginning.specs.Ways.{usable-begun}
+use Rattle.beginning.specs.Ways.{usable-begun, usable-disk, →usable}
 use Rattle.staging.specs.Seeing.{writes, cuts}
-use Rattle.appending.specs.CallWays.{usable-sound, →usable}
 use Rattle.appending.specs.Room.{noRoom}
 use Rattle.ending.specs.Listing.{nextList}
 use Rattle.ending.specs.Checking.{mayCommit}
@@ -230,7 +229,7 @@ module _ (d s : List ℕ) where
 
 module _ (d s : List ℕ) (bytes : Bytes s) (t : ℕ) where
   pub at-start : usable d s ≡ true → Whole (areas d s)
-  at-start ok = record { sound = usable-sound d s ok; begun = usable-begun d s ok; bytes = bytes }
+  at-start ok = record { sound = usable-disk d s ok; begun = usable-begun d s ok; bytes = bytes }
 
   pub commit-either : (P : Outcome → Type 0) → ((why : Refusal) → P (refusedAt why d s)) → ((o : Outcome) → Committed d s o → P o) → P (commitCall d s t)
   commit-either P refuses goes =

@@ -16,7 +16,7 @@ use Rattle.layout.specs.Session.{sessionBytes, tapeAt, fileSize, Begun}
 use Rattle.ring_buffer.specs.Ring.{truncated}
 use Rattle.session.specs.Rows.{headOf, transactionOf, handleOf, ringOf, putRing, stagedOf, putStaged}
 use Rattle.session.specs.RowLaws.{RingNumbers, StagedFits, head-only, only-putTransaction, transaction-same, handle-only, only-putRing, ring-same, only-putStaged, staged-same, staged-only}
-use Rattle.session.specs.KeepLaws.{Open, open-row, ranged, begun-tape, begun-putTransaction, begun-putStaged, bytes-putTransaction, bytes-putRing, bytes-putStaged}
+use Rattle.session.specs.KeepLaws.{Open, open-with, ranged, begun-tape, begun-putTransaction, begun-putStaged, bytes-putTransaction, bytes-putRing, bytes-putStaged}
 use Rattle.session.specs.declared.tape_rows.Handle.{Handle}
 use Rattle.session.specs.declared.tape_rows.Staged.{Staged}
 use Rattle.session.specs.Meaning.{closed, untouched}
@@ -33,31 +33,18 @@ use Rattle.ending.specs.Steps.{cutRing, clearIn, cutTape, cutAll, unstag
 pub untouched-fits : StagedFits untouched
 untouched-fits = record { base = omega arith; len = omega arith; start = omega arith; unwritten = omega arith }
 
+pub begun-unstage : (s : List ℕ) → Begun s → (p : ℕ) → p < 8 → Begun (unstage p s)
+unfolding unstage
+begun-unstage s begun p low = begun-putStaged s begun p low untouched (λ held. omega arith)
+
+pub bytes-unstage : (s : List ℕ) → sessionBytes ≤ length s → Bytes s → (p : ℕ) → p < 8 → Bytes (unstage p s)
+unfolding unstage
+bytes-unstage s long bytes p low = bytes-putStaged s bytes p untouched (omega arith)
+
 module _ (p : ℕ) (s : List ℕ) (low : p < 8) where
   pub only-unstage : OnlyIn 4168 4936 s (unstage p s)
   unfolding unstage
   only-unstage = only-wider _ _ 4168 4936 s _ (omega arith) (omega arith) (only-putStaged s p untouched)
-
-  pub begun-unstage : Begun s → Begun (unstage p s)
-  unfolding unstage
-  begun-unstage begun =
-      begun-putStaged s begun p low untouched untouched-fits
-      (λ held.
-      let o = open-row s begun p low held in
-      record {
-        entry-some = o .entry-some;
-        entry-small = o .entry-small;
-        file-some = o .file-some;
-        file-small = o .file-small;
-        small = o .small;
-        inside = o .inside;
-        short = o .short;
-        pending = omega arith;
-      })
-
-  bytes-unstage : sessionBytes ≤ length s → Bytes s → Bytes (unstage p s)
-  unfolding unstage
-  bytes-unstage long bytes = bytes-putStaged s bytes p untouched (omega arith)
 
   -- the ring that a cut leaves
   cut-numbers : Bytes s → (len : ℕ) → RingNumbers (truncated (ringOf s p) len)
@@ -89,17 +76,7 @@ module _ (p : ℕ) (s : List ℕ) (low : p < 8) where
   -- a ring that is cut holds no more than before, and nothing is staged
   cut-open : {h : Handle} {st : Staged} (len : ℕ) → Open h (ringOf s p) st → Open h (truncated (ringOf s p) len) untouched
   unfolding truncated
-  cut-open len o =
-      record {
-        entry-some = o .entry-some;
-        entry-small = o .entry-small;
-        file-some = o .file-some;
-        file-small = o .file-small;
-        small = o .small;
-        inside = o .inside;
-        short = omega (arith, o .short);
-        pending = omega arith;
-      }
+  cut-open len o = open-with o (o .small) (o .inside) (omega (arith, o .short)) (omega arith)
 
   pub begun-cutRing : Begun s → Bytes s → Begun (cutRing p s)
   unfolding cutRing
@@ -191,7 +168,7 @@ module _ (s : List ℕ) where
   pub begun-closeWriter : Begun s → Begun (closeWriter s)
   unfolding closeWriter
   begun-closeWriter begun =
-      begun-putTransaction (sweep unstage 8 0 s) (sweep-keeps Begun unstage 8 0 s (λ p t l h b. begun-unstage p t (omega arith) b) begun)
+      begun-putTransaction (sweep unstage 8 0 s) (sweep-keeps Begun unstage 8 0 s (λ p t l h b. begun-unstage t b p (omega arith)) begun)
       16 closed (omega arith) (λ l. omega arith) (λ e q. omega arith)
 
   pub bytes-closeWriter : sessionBytes ≤ length s → Bytes s → Bytes (closeWriter s)
@@ -203,7 +180,7 @@ module _ (s : List ℕ) where
       (sweep-keeps (λ (t : List ℕ). (length t ≡ length s) × Bytes t) unstage 8 0 s
       (λ p t l h k.
       let kept = k .0 in
-      (only-unstage p t (omega arith) .long ∙ k .0, bytes-unstage p t (omega arith) (omega arith) (k .1)))
+      (only-unstage p t (omega arith) .long ∙ k .0, bytes-unstage t (omega arith) (k .1) p (omega arith)))
       (refl, bytes) .1)
       16 closed (omega arith)
 

@@ -8,7 +8,7 @@ use Prim.Native.Nat.{ℕ, _+_, _-_, _≤_, _<_}
 use native.Mathlib.Omega.{arith}
 use lib.Dec.{eqb}
 use lib.ListN.{length}
-use Rattle.octets.specs.Cases.{picked, and-l}
+use Rattle.octets.specs.Cases.{picked}
 use Rattle.octets.specs.Number.{Bytes}
 use Rattle.octets.specs.Sweep.{sweep, sweep-keeps}
 use Rattle.octets.specs.Words.{word-at}
@@ -20,25 +20,25 @@ use Rattle.answers.specs.declared.Answer.the-variants.{Done}
 use Rattle.answers.specs.declared.Refusal.{Refusal}
 use Rattle.answers.specs.declared.Refusal.the-variants.{Unusable, Unknown}
 use Rattle.layout.specs.Disk as D
-use Rattle.layout.specs.DiskLaws as DL
 use Rattle.layout.specs.NamesLaws.{only-putName, bytes-putName}
 use Rattle.layout.specs.Session.{sessionBytes, namesAt, tapeAt, handleNumber, Begun, begun}
 use Rattle.layout.specs.SessionLaws.{begun→, →begun}
 use Rattle.ring_buffer.specs.Ring.{popped}
-use Rattle.ring_buffer.specs.declared.bookkeeping.RingBuffer.{RingBuffer}
-use Rattle.session.specs.Rows.{viewOf, transactionOf, handleOf, handleWords, putHandle, ringOf, ringWords, putRing, stagedOf, findTransaction}
-use Rattle.session.specs.RowLaws.{HandleFits, StagedFits, length-putTransaction, length-putHandle, handle-only, only-putRing, length-putRing, ring-only, only-putStaged, length-putStaged, staged-same, staged-only}
-use Rattle.session.specs.KeepLaws.{Open, open-row, by-number, begun-tape, begun-putHandle, begun-putStaged, begun-putName, begun-putTransaction, bytes-putTransaction, bytes-putHandle, bytes-putRing, bytes-putStaged}
+use Rattle.session.specs.Rows.{viewOf, transactionOf, handleWords, putHandle, ringOf, putRing, stagedOf, findTransaction}
+use Rattle.session.specs.RowLaws.{HandleFits, length-putTransaction, length-putHandle, length-putRing, ring-only, only-putStaged, length-putStaged, staged-same}
+use Rattle.session.specs.KeepLaws.{open-with, open-row, begun-putHandle, begun-putRing, begun-putName, begun-putTransaction, bytes-putTransaction, bytes-putHandle, bytes-putRing}
 use Rattle.session.specs.Meaning.{closed, noHandle, noRing, untouched}
 use Rattle.rolling_tape.specs.TrackingLaws.{length-retracked, begun-retracked, bytes-retracked}
 use Rattle.rolling_tape.specs.declared.tracking.Change.the-variants.{UntrackAll}
 use Rattle.beginning.specs.Transactions.{After, after, refused, usable}
-use Rattle.beginning.specs.Ways.{usable-begun}
+use Rattle.beginning.specs.Ways.{usable-begun, usable-disk}
 use Rattle.beginning.specs.Laws.{after-unique}
 use Rattle.staging.specs.Seeing.{directoryOf, isAppend}
 use Rattle.staging.specs.Ways.{transaction-low}
 use Rattle.ending.specs.Listing.{isTouched}
 use Rattle.ending.specs.Steps.{unstage, closeWriter}
+use Rattle.ending.specs.CutLaws.{begun-unstage, bytes-unstage}
+use Rattle.ending.specs.CutLaws.{untouched-fits, begun-closeWriter, bytes-closeWriter}
 use Rattle.ending.specs.Dropping.{reverted, untrackIn, forgotten, takeBack, dropAppend, dropAt, dropFound, dropTransactionCall}
 
 -- ---- lengths are kept
@@ -96,59 +96,7 @@ length-dropAt d s t =
 
 -- ---- the layout rule is kept: the staged record goes first, so no ring holds less than is unwritten
 
--- of a ring that is put the rule looks at three numbers, all small; its first index may be any
-ring-read : (s : List ℕ) (p : ℕ) (r : RingBuffer) → tapeAt p + 24 + 32 ≤ length s → Open (handleOf s p) r (stagedOf s p)
-    → Open (handleOf s p) (ringOf (putRing s p r) p) (stagedOf s p)
-unfolding ringOf putRing
-ring-read s p r room o =
-    let word = word-at s (tapeAt p + 24) (ringWords r) in
-    let inside = o .inside in
-    let small = o .small in
-    let short = o .short in
-    let a = word 0 (tapeAt p + 24) room (omega arith) (omega arith) (omega arith) in
-    let b = word 1 (tapeAt p + 32) room (omega arith) (omega arith) (omega arith) in
-    let c = word 2 (tapeAt p + 40) room (omega arith) (omega arith) (omega arith) in
-    record {
-      entry-some = o .entry-some;
-      entry-small = o .entry-small;
-      file-some = o .file-some;
-      file-small = o .file-small;
-      small = rw a small;
-      inside = rw (a, b) inside;
-      short = rw (a, c) short;
-      pending = rw c (o .pending);
-    }
-
--- a ring in range, if its tape has a handle
-pub begun-ring : (s : List ℕ) → Begun s → (p : ℕ) → p < 8 → (r : RingBuffer) → (handleNumber s p ≢ 0 → Open (handleOf s p) r (stagedOf s p)) → Begun (putRing s p r)
-begun-ring s begun p low r row =
-    let u = putRing s p r in
-    let only = only-putRing s p r in
-    begun-tape _ _ s u only p low (omega arith) (omega arith) begun
-    (rw (handle-only _ _ s u only p (λ q. omega arith), staged-only _ _ s u only p (λ q. omega arith))
-    (by-number s p (ringOf u p) (stagedOf s p) (λ held. ring-read s p r (omega (arith, begun .long)) (row held))))
-
-pub fits-untouched : StagedFits untouched
-fits-untouched = record { base = omega arith; len = omega arith; start = omega arith; unwritten = omega arith }
-
 module _ (s : List ℕ) (begun : Begun s) (p : ℕ) (low : p < 8) where
-  pub begun-unstage : Begun (unstage p s)
-  unfolding unstage
-  begun-unstage =
-      begun-putStaged s begun p low untouched fits-untouched
-      (λ held.
-      let o = open-row s begun p low held in
-      record {
-        entry-some = o .entry-some;
-        entry-small = o .entry-small;
-        file-some = o .file-some;
-        file-small = o .file-small;
-        small = o .small;
-        inside = o .inside;
-        short = o .short;
-        pending = omega arith;
-      })
-
   -- the ring is another part of the row
   ring-unstage : ringOf (unstage p s) p ≡ ringOf s p
   unfolding unstage
@@ -156,28 +104,20 @@ module _ (s : List ℕ) (begun : Begun s) (p : ℕ) (low : p < 8) where
 
   staged-unstage : stagedOf (unstage p s) p ≡ untouched
   unfolding unstage
-  staged-unstage = staged-same s p untouched (omega (arith, begun .long)) fits-untouched
+  staged-unstage = staged-same s p untouched (omega (arith, begun .long)) untouched-fits
 
   -- the ring that is left has no more bytes than it had, and nothing is unwritten
   pub begun-reverted : Begun (reverted p s)
   unfolding reverted popped
   begun-reverted =
       let u = unstage p s in
+      let b = begun-unstage s begun p low in
       let n = stagedOf s p .len - stagedOf s p .base in
-      begun-ring u begun-unstage p low (popped (ringOf s p) n)
+      begun-putRing u b p low (popped (ringOf s p) n)
       (λ held.
-      let o = rw ring-unstage at (open-row u begun-unstage p low held) in
+      let o = rw ring-unstage at (open-row u b p low held) in
       let short = o .short in
-      record {
-        entry-some = o .entry-some;
-        entry-small = o .entry-small;
-        file-some = o .file-some;
-        file-small = o .file-small;
-        small = o .small;
-        inside = o .inside;
-        short = omega arith;
-        pending = rw staged-unstage (omega arith);
-      })
+      open-with o (o .small) (o .inside) (omega arith) (rw staged-unstage (omega arith)))
 
 pub begun-untrackIn : (d s : List ℕ) → D.Sound d → Begun s → (f : Found) → Begun (untrackIn d s f)
 begun-untrackIn d s sound begun (At place) = begun-retracked d s place UntrackAll (sound .head .few) begun
@@ -200,7 +140,7 @@ module _ (d s : List ℕ) (sound : D.Sound d) (begun : Begun s) (p : ℕ) (low :
       let b = putHandle a p noHandle in
       let bb = begun-putHandle a ba p low noHandle fits-none (λ held. absurd (held refl)) in
       begun-putName (putRing b p noRing)
-      (begun-ring b bb p low noRing (λ held. absurd (held (no-number a p (omega (arith, ba .long))))))
+      (begun-putRing b bb p low noRing (λ held. absurd (held (no-number a p (omega (arith, ba .long))))))
       p [] low (omega arith)
 
   pub begun-takeBack : Begun (takeBack d p s)
@@ -209,12 +149,6 @@ module _ (d s : List ℕ) (sound : D.Sound d) (begun : Begun s) (p : ℕ) (low :
       picked Begun (isTouched s p) _ s
       (λ e. picked Begun (viewOf s 16 p .listed) _ _ (λ q. begun-reverted s begun p low) (λ q. begun-forgotten))
       (λ e. begun)
-
-pub begun-closeWriter : (s : List ℕ) → Begun s → Begun (closeWriter s)
-unfolding closeWriter
-begun-closeWriter s begun =
-    let b = sweep-keeps Begun unstage 8 0 s (λ j t l m e. begun-unstage t e j (omega arith)) begun in
-    begun-putTransaction (sweep unstage 8 0 s) b 16 closed (omega arith) (λ l. omega arith) (λ e q. omega arith)
 
 module _ (d s : List ℕ) (sound : D.Sound d) (begun : Begun s) where
   pub begun-dropAppend : Begun (dropAppend d s)
@@ -233,32 +167,16 @@ module _ (d s : List ℕ) (sound : D.Sound d) (begun : Begun s) where
 -- ---- bytes stay bytes
 
 module _ (s : List ℕ) (long : sessionBytes ≤ length s) (bytes : Bytes s) where
-  pub bytes-unstage : (p : ℕ) → p < 8 → Bytes (unstage p s)
-  unfolding unstage
-  bytes-unstage p low = bytes-putStaged s bytes p untouched (omega arith)
-
   pub bytes-reverted : (p : ℕ) → p < 8 → Bytes (reverted p s)
   unfolding reverted
   bytes-reverted p low =
       let same = length-unstage p s in
-      bytes-putRing (unstage p s) (bytes-unstage p low) p _ (omega arith)
+      bytes-putRing (unstage p s) (bytes-unstage s long bytes p low) p _ (omega arith)
 
   module _ (d : List ℕ) (sound : D.Sound d) where
     pub bytes-untrackIn : (f : Found) → Bytes (untrackIn d s f)
     bytes-untrackIn (At place) = bytes-retracked d s place UntrackAll (sound .head .few) long bytes
     bytes-untrackIn Nothing = bytes
-
-pub bytes-closeWriter : (s : List ℕ) → sessionBytes ≤ length s → Bytes s → Bytes (closeWriter s)
-unfolding closeWriter
-bytes-closeWriter s long bytes =
-    let r
-    = sweep-keeps (λ (t : List ℕ). (sessionBytes ≤ length t) × Bytes t) unstage 8 0 s
-    (λ j t l m r.
-    let wide = r .0 in
-    let same = length-unstage j t in
-    (omega arith, bytes-unstage t wide (r .1) j (omega arith)))
-    (long, bytes) in
-    bytes-putTransaction (sweep unstage 8 0 s) (r .1) 16 closed (omega (arith, r .0))
 
 module _ (d : List ℕ) (sound : D.Sound d) where
   module _ (s : List ℕ) (long : sessionBytes ≤ length s) (bytes : Bytes s) (p : ℕ) (low : p < 8) where
@@ -304,10 +222,6 @@ module _ (d : List ℕ) (sound : D.Sound d) where
         (λ e. bytes-putTransaction s bytes t closed (omega arith))
 
 -- ---- the ways out of the call
-
-pub usable-disk : (d s : List ℕ) → usable d s ≡ true → D.Sound d
-unfolding usable
-usable-disk d s ok = DL.sound→ d (and-l (D.sound d) (begun s) ok)
 
 module _ (d s : List ℕ) (n : ℕ) where
   pub drop-unusable : usable d s ≡ false → dropTransactionCall d s n ≡ refused Unusable s

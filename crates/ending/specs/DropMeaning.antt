@@ -24,7 +24,8 @@ use Rattle.beginning.specs.Ways.{usable-begun}
 use Rattle.staging.specs.Ways.{transaction-low}
 use Rattle.ending.specs.Steps.{unstage, closeWriter}
 use Rattle.ending.specs.Dropping.{dropAt, dropTransactionCall}
-use Rattle.ending.specs.DropLaws.{fits-untouched, drop-served, drop-cases}
+use Rattle.ending.specs.DropLaws.{drop-served, drop-cases}
+use Rattle.ending.specs.CutLaws.{untouched-fits}
 
 -- ---- the writer's place closed
 
@@ -46,7 +47,7 @@ fits-closed = record { number = omega arith; epoch = omega arith }
 
 session-unstage : (p : ℕ) (s : List ℕ) → Ready s → p < 8 → sessionOf (unstage p s) ≡ withStaged (sessionOf s) p untouched
 unfolding unstage
-session-unstage p s ready low = session-putStaged s p untouched ready low fits-untouched
+session-unstage p s ready low = session-putStaged s p untouched ready low untouched-fits
 
 ready-unstage : (p : ℕ) (s : List ℕ) → Ready s → p < 8 → Ready (unstage p s)
 unfolding unstage
@@ -71,7 +72,7 @@ unfolding unstage
 unstages =
     record {
       keeps = λ i s l r. ready-unstage i s r l;
-      own = λ i s l r. staged-same s i untouched (omega (arith, r .long)) fits-untouched;
+      own = λ i s l r. staged-same s i untouched (omega (arith, r .long)) untouched-fits;
       other = λ i j s l m d r. staged-only _ _ s _ (only-putStaged s i untouched) j (λ q. omega arith);
     }
 

@@ -1,14 +1,14 @@
 -- The published list has every tape that is published, and no other: a name that is found is behind the last, so at most 8 searches find them all.
 -- Assumes nothing.
 use mathlib.Core.Path.{_≡_, refl, sym, _∙_}
-use mathlib.Core.Logic.{_≢_, ⊎-elim}
+use mathlib.Core.Logic.{⊎-elim}
 use mathlib.Core.Bool.{Bool, true, false, true≢false, _&&_}
 use mathlib.Core.List.{List, [], List·Memᴰ, List·Memᴰ·head, List·Memᴰ·tail, List·Memᴰ·cases-cons, List·Memᴰ·not-nil}
-use Prim.Native.Nat.{ℕ, zero, suc, _+_, _≤_, _<_}
+use Prim.Native.Nat.{ℕ, zero, suc, _≤_, _<_}
 use native.Mathlib.Omega.{arith}
-use Rattle.octets.specs.Cases.{decide, equal, and-l, and-r, and-both}
+use Rattle.octets.specs.Cases.{decide, and-l, and-r, and-both}
 use Rattle.octets.specs.Compare.{comesBefore, before-irrefl, before-trans, before-total}
-use Rattle.octets.specs.First.{count, count-le}
+use Rattle.octets.specs.First.{count, count-le, count-fewer}
 use Rattle.octets.specs.declared.Found.{Found}
 use Rattle.octets.specs.declared.Found.the-variants.{At, Nothing}
 use Rattle.metadata.specs.Tapes.{Tape}
@@ -16,33 +16,6 @@ use Rattle.layout.specs.Names.{name}
 use Rattle.layout.specs.Session.{namesAt}
 use Rattle.ending.specs.Listing.{published, nextBehind, tapeIn, withNext, listBehind, nextList}
 use Rattle.ending.specs.ListingLaws.{Next, next-found, next-first, next-none}
-
--- ---- tests of which one implies the other count no more, and less where they differ
-
-module _ (p q : ℕ → Bool) where
-  count-within : (k i : ℕ) → ((j : ℕ) → i ≤ j → j < i + k → q j ≡ true → p j ≡ true) → count q k i ≤ count p k i
-  unfolding count
-  count-within zero i h = omega arith
-  count-within (suc k) i h =
-      let rest = count-within k (i + 1) (λ j l m. h j (omega arith) (omega arith)) in
-      decide (q i)
-      (λ (t : q i ≡ true). rw (t, h i (omega arith) (omega arith) t) (omega arith))
-      (λ (f : q i ≡ false). rw f (omega arith))
-
-  count-fewer : (k i m : ℕ) → i ≤ m → m < i + k → p m ≡ true → q m ≡ false → ((j : ℕ) → i ≤ j → j < i + k → q j ≡ true → p j ≡ true)
-      → count q k i < count p k i
-  unfolding count
-  count-fewer zero i m low high t f h = absurd (omega arith)
-  count-fewer (suc k) i m low high t f h =
-      equal i m
-      (λ (e : i ≡ m).
-      let rest = count-within k (m + 1) (λ j l n. h j (omega arith) (omega arith)) in
-      rw (e, t, f) (omega arith))
-      (λ (d : i ≢ m).
-      let rest = count-fewer k (i + 1) m (omega arith) (omega arith) t f (λ j l n. h j (omega arith) (omega arith)) in
-      decide (q i)
-      (λ (u : q i ≡ true). rw (u, h i (omega arith) (omega arith) u) (omega arith))
-      (λ (u : q i ≡ false). rw u (omega arith)))
 
 -- ---- no other: each tape of the list is one that is published
 

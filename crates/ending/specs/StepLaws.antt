@@ -255,20 +255,20 @@ module _ (d s : List ℕ) (list : TapeList) (ok : storable list ≡ true) where
   abbrev theRecord : List ℕ
   theRecord = encodeRecord (headOf s .epoch + 1) (encodeList (tapesOf list))
 
-  short : length theRecord ≤ 512
-  short = omega (arith, record-most (headOf s .epoch + 1) list ok)
+  pub record-short : length theRecord ≤ 512
+  record-short = omega (arith, record-most (headOf s .epoch + 1) list ok)
 
   -- only left and right, and their lengths
   pub only-recorded : OnlyIn 16 1312 d (recorded d s list)
   unfolding recorded
-  only-recorded = only-writeSide d theRecord short (headOf s .side)
+  only-recorded = only-writeSide d theRecord record-short (headOf s .side)
 
   pub slots-recorded : slots (recorded d s list) ≡ slots d
   slots-recorded = slots-only 16 1312 d _ only-recorded (omega arith)
 
   pub sound-recorded : Sound d → Sound (recorded d s list)
   unfolding recorded
-  sound-recorded sound = sound-writeSide d sound (headOf s .side) theRecord short
+  sound-recorded sound = sound-writeSide d sound (headOf s .side) theRecord record-short
 
   -- 48 bytes of its head, among them the hash, and the list's
   bytes-theRecord : Bytes theRecord
@@ -283,7 +283,7 @@ module _ (d s : List ℕ) (list : TapeList) (ok : storable list ≡ true) where
 
   pub bytes-recorded : Sound d → Bytes d → Bytes (recorded d s list)
   unfolding recorded
-  bytes-recorded sound bytes = bytes-writeSide d theRecord short (headOf s .side) (omega (arith, sound .head .room)) bytes bytes-theRecord
+  bytes-recorded sound bytes = bytes-writeSide d theRecord record-short (headOf s .side) (omega (arith, sound .head .room)) bytes bytes-theRecord
 
 -- ---- the session's own fields
 

@@ -4,12 +4,9 @@ use mathlib.Core.Logic.{_≢_}
 use mathlib.Core.Bool.{true, false}
 use mathlib.Core.List.{List}
 use Prim.Native.Nat.{ℕ, _*_, _-_, _/_, _≤_, _<_}
-use native.Mathlib.Omega.{arith}
 use borrow.Author.Tests.{eq-eqb, ne-eqb, le-leb, lt-leb}
 use lib.ListN.{length}
 use Rattle.octets.specs.Bytes.{put}
-use Rattle.octets.specs.Cases.{and-l}
-use Rattle.octets.specs.First.{first-hits}
 use Rattle.octets.specs.declared.Found.the-variants.{At, Nothing}
 use Rattle.answers.specs.Outcome.{reading, refusedRead, entering, popping, refusedPop}
 use Rattle.answers.specs.declared.Answer.{Answer}
@@ -19,11 +16,8 @@ use Rattle.answers.specs.declared.OneEntry.the-variants.{Entry, NoEntry}
 use Rattle.answers.specs.declared.Refusal.{Refusal}
 use Rattle.answers.specs.declared.Refusal.the-variants.{Unusable, Unknown, NotWhole, Absent, OutOfBounds, Missing}
 use Rattle.components.specs.Bounds.{inBounds}
-use Rattle.layout.specs.Disk.{sound, Sound}
-use Rattle.layout.specs.DiskLaws.{sound→}
-use Rattle.octets.specs.Compare.{sameBytes}
-use Rattle.layout.specs.Names.{name, findName}
-use Rattle.layout.specs.Session.{begun, namesAt, entrySize}
+use Rattle.layout.specs.Names.{findName}
+use Rattle.layout.specs.Session.{namesAt, entrySize}
 use Rattle.metadata.specs.Name.{nameRule}
 use Rattle.session.specs.Rows.{handleOf, findTransaction, findHandle}
 use Rattle.session.specs.declared.views.View.{View}
@@ -37,15 +31,6 @@ use Rattle.entries.specs.Popping.{popAt, popOn, popCall}
 use Rattle.entries.specs.Existing.{sees, existsCall}
 
 -- ---- what was found before
-
--- areas that can be used: the disk's part; the session's is `usable-begun`
-pub usable-sound : (d s : List ℕ) → usable d s ≡ true → Sound d
-unfolding usable
-usable-sound d s h = sound→ d (and-l (sound d) (begun s) h)
-
-pub name-low : (s wanted : List ℕ) (p : ℕ) → findName s namesAt wanted ≡ At p → p < 8
-unfolding findName
-name-low s wanted p e = omega (arith, first-hits (λ i. sameBytes (name s namesAt i) wanted) 8 0 p e .high)
 
 -- the entry size of a handle that was read
 pub handle-entry : (s : List ℕ) (p : ℕ) (h : Handle) → h ≡ handleOf s p → h .entry ≡ entrySize s p

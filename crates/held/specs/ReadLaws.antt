@@ -26,8 +26,8 @@ serves fs h st n c l k g o a b =
     (λ t. ap {B = Option ℕ} some (g o a b (leb-true (h .ring .first) o t)))
     (λ t. k o a (l o b (leb-false (h .ring .first) o t)))
 
-pub served : (fs : ℕ) (h : Held) (st : ℕ) (c : List ℕ) → Serves fs h st c → (n o : ℕ) → st ≤ o → o + n ≤ length c → fetch fs h o n ≡ some (take n (drop o c))
+pub fetch-serves : (fs : ℕ) (h : Held) (st : ℕ) (c : List ℕ) → Serves fs h st c → (n o : ℕ) → st ≤ o → o + n ≤ length c → fetch fs h o n ≡ some (take n (drop o c))
 unfolding fetch
-served fs h st c v zero o a b = refl
-served fs h st c v (suc n) o a b =
-    rw (v o a (omega arith), served fs h st c v n (o + 1) (omega arith) (omega arith), drop-cons c o 0 (omega arith), add-one o)
+fetch-serves fs h st c v zero o a b = refl
+fetch-serves fs h st c v (suc n) o a b =
+    rw (v o a (omega arith), fetch-serves fs h st c v n (o + 1) (omega arith) (omega arith), drop-cons c o 0 (omega arith), add-one o)

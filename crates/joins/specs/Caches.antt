@@ -5,7 +5,6 @@ use mathlib.Core.Logic.{_≢_}
 use mathlib.Core.Bool.{true, cond}
 use mathlib.Core.List.{List}
 use Prim.Native.Nat.{ℕ, _+_, _-_, _≤_, _<_, _^_}
-use native.Mathlib.Nat.{mod-lt}
 use native.Mathlib.Omega.{arith}
 use borrow.Author.Tests.{eq-eqb, ne-eqb, leb-false, ltb-false}
 use lib.Dec.{eqb}
@@ -17,12 +16,12 @@ use Rattle.octets.specs.Only.{OnlyIn}
 use Rattle.disk.specs.Meaning.{diskOf}
 use Rattle.layout.specs.Disk.{Sound}
 use Rattle.layout.specs.Session.{headAt, handleNumber, ringLen, Begun}
-use Rattle.ring_buffer.specs.Ring.{fresh, resetTo, over, prepared, pushed, popped, truncated, Sound as RingSound}
-use Rattle.ring_buffer.specs.Put.{fills, pushesOut, lastOf, goBy, afterPut, bytesAfterPut, unwrittenAfter, sound-put}
+use Rattle.ring_buffer.specs.Ring.{fresh, resetTo, prepared, popped, truncated, Sound as RingSound}
+use Rattle.ring_buffer.specs.Put.{fills, pushesOut, lastOf, afterPut, bytesAfterPut, unwrittenAfter}
 use Rattle.ring_buffer.specs.declared.bookkeeping.RingBuffer.{RingBuffer}
 use Rattle.session.specs.Meaning.{Session, untouched, sessionOf, withHead, withHandle, withRing, withCache, withStaged}
-use Rattle.session.specs.MeaningLaws.{Ready, same-session, head-at, handle-at, ring-at, cache-at, staged-at, tracking-at, ready-putHandle, ready-putRing, ready-putStaged, ready-fillRing, ready-pushRing, session-putHead, session-putHandle, session-putRing, session-putStaged, session-fillRing, session-pushRing}
-use Rattle.session.specs.Rows.{headOf, handleOf, ringOf, stagedOf, ringBytes, trackingOf, putRing, putStaged, putHandle, pushRing, fillRing}
+use Rattle.session.specs.MeaningLaws.{Ready, same-session, head-at, handle-at, ring-at, cache-at, staged-at, ready-putHandle, ready-putRing, ready-putStaged, ready-fillRing, ready-pushRing, session-putHead, session-putHandle, session-putRing, session-putStaged, session-fillRing, session-pushRing}
+use Rattle.session.specs.Rows.{headOf, handleOf, ringOf, stagedOf, ringBytes, putRing, putStaged, putHandle, pushRing, fillRing}
 use Rattle.session.specs.RowLaws.{HeadFits, RingNumbers, StagedFits}
 use Rattle.session.specs.KeepLaws.{begun-ready, ring-sound}
 use Rattle.session.specs.declared.head.Head.{Head}
@@ -34,7 +33,7 @@ use Rattle.rolling_tape.specs.Removal.{Areas}
 use Rattle.cached_tape.specs.Filling.{filledWith}
 use Rattle.cached_tape.specs.FlushLaws.{begun-kept, ring-kept, ringBytes-kept, staged-kept, handle-kept, number-kept}
 use Rattle.cached_tape.specs.Putting.{sentTo, cachedIn, grown, putIn}
-use Rattle.cached_tape.specs.PutLaws.{kept-sent}
+use Rattle.cached_tape.specs.PutLaws.{ring-numbers, kept-sent}
 use Rattle.opening.specs.Calls.{cachedFrom, nextHandle, rowed}
 use Rattle.opening.specs.RowedLaws.{RowFits}
 use Rattle.opening.specs.declared.shape.Opening.{Opening}
@@ -62,11 +61,6 @@ module _ {A : Type 0} (f : ℕ → A) (p : ℕ) (x : A) where
 
 module _ (s : List ℕ) (p : ℕ) (low : p < 8) where
   -- what a step does not change stands as it is
-  own-staged : withStaged (sessionOf s) p (stagedOf s p) ≡ sessionOf s
-  own-staged =
-      same-session (withStaged (sessionOf s) p (stagedOf s p)) (sessionOf s) refl refl refl refl refl refl refl
-      (with-own (sessionOf s .staged) p (stagedOf s p) (staged-at s p low)) refl
-
   own-cache : withCache (sessionOf s) p (ringBytes s p) ≡ sessionOf s
   own-cache =
       same-session (withCache (sessionOf s) p (ringBytes s p)) (sessionOf s) refl refl refl refl refl refl
@@ -93,10 +87,6 @@ pub record Becomes (s t : List ℕ) (p : ℕ) (r : RingBuffer) (bytes : List ℕ
   pub tracking : sessionOf t .tracking ≡ sessionOf s .tracking
   pub whole : sessionOf t ≡ withTape (sessionOf s) p r bytes st
 
--- the rows of tracking, one by one
-pub tracking-rows : (s t : List ℕ) → sessionOf t .tracking ≡ sessionOf s .tracking → (i : ℕ) → i < 64 → trackingOf t i ≡ trackingOf s i
-tracking-rows s t e i l = sym (tracking-at t i l) ∙ ap (λ (f : ℕ → Tracking). f i) e ∙ tracking-at s i l
-
 module _ (s t : List ℕ) (p : ℕ) (low : p < 8) (r : RingBuffer) (bytes : List ℕ) (st : Staged) where
   pub becomes : sessionOf t ≡ withTape (sessionOf s) p r bytes st → Becomes s t p r bytes st
   becomes e =
@@ -117,18 +107,6 @@ module _ (s t : List ℕ) (p : ℕ) (low : p < 8) (r : RingBuffer) (bytes : List
 
 -- ---- a put
 
--- the ring's numbers after it (`ring-numbers` of cached_tape/PutLaws, which is private there)
-put-numbers : (r : RingBuffer) (len : ℕ) (bs : List ℕ) → RingSound r 4096 → RingNumbers (afterPut r len bs)
-unfolding afterPut pushed
-put-numbers r len bs sound =
-    let after : RingSound (afterPut r len bs) 4096 = sound-put r 4096 len bs sound in
-    record {
-      capacity = omega (arith, after .small);
-      start = omega (arith, after .small, after .inside);
-      len = omega (arith, after .small, after .short);
-      first = mod-lt (prepared r len .first + over (prepared r len) (length (lastOf r bs)) + goBy r bs) (omega arith);
-    }
-
 -- no more is unwritten than the ring has room for
 unwritten-small : (r : RingBuffer) (unwritten n : ℕ) → unwrittenAfter r unwritten n ≤ r .capacity
 unfolding unwrittenAfter
@@ -146,7 +124,7 @@ module _ (s : List ℕ) (begun : Begun s) (p : ℕ) (low : p < 8) (held : handle
       let new = afterPut r len bs in
       let u = pushRing s p (prepared r len) (lastOf r bs) in
       let ready = begun-ready s begun in
-      session-putRing u p new (ready-pushRing s p (prepared r len) (lastOf r bs) ready low) low (put-numbers r len bs (ring-sound s begun p low held))
+      session-putRing u p new (ready-pushRing s p (prepared r len) (lastOf r bs) ready low) low (ring-numbers r len bs (ring-sound s begun p low held))
       ∙ ap (λ (m : Session). withRing m p new) (session-pushRing s p (prepared r len) (lastOf r bs) ready low)
 
   cached-ready : Ready (cachedIn s p len bs)
@@ -155,14 +133,6 @@ module _ (s : List ℕ) (begun : Begun s) (p : ℕ) (low : p < 8) (held : handle
       let r = ringOf s p in
       let u = pushRing s p (prepared r len) (lastOf r bs) in
       ready-putRing u p (afterPut r len bs) (ready-pushRing s p (prepared r len) (lastOf r bs) (begun-ready s begun) low) low
-
-  -- what goes to the cache
-  pub cached-becomes : Becomes s (cachedIn s p len bs) p (afterPut (ringOf s p) len bs) (bytesAfterPut (ringOf s p) (ringBytes s p) bs) (stagedOf s p)
-  cached-becomes =
-      let r = ringOf s p in
-      becomes s (cachedIn s p len bs) p low (afterPut r len bs) (bytesAfterPut r (ringBytes s p) bs) (stagedOf s p)
-      (cached-means
-      ∙ ap (λ (m : Session). withRing (withCache m p (bytesAfterPut r (ringBytes s p) bs)) p (afterPut r len bs)) (sym (own-staged s p low)))
 
 -- what a put through the cache leaves: of the rows only tape p's change, and the tracking is that of what went to the files
 pub record PutsIn (a : Areas) (place p : ℕ) (row : Staged) (bs : List ℕ) : Type 0 where
@@ -242,11 +212,6 @@ module _ (s : List ℕ) (ready : Ready s) (p : ℕ) (low : p < 8) (capacity firs
   unfolding filledWith
   filled-ready = ready-putRing (fillRing s p 0 bs) p new (ready-fillRing s p 0 bs ready low (omega arith)) low
 
-  pub filled-becomes : Becomes s (filledWith s p capacity first bs) p (resetTo (fresh capacity first) (length bs) first) (put (ringBytes s p) 0 bs) (stagedOf s p)
-  filled-becomes =
-      becomes s _ p low new (put (ringBytes s p) 0 bs) (stagedOf s p)
-      (filled-means ∙ ap (λ (m : Session). withRing (withCache m p (put (ringBytes s p) 0 bs)) p new) (sym (own-staged s p low)))
-
 -- ---- the row of a tape that is opened
 
 abbrev pub rowStaged : Opening → Staged
@@ -265,6 +230,13 @@ rowHead s =
       «last_handle» = nextHandle s;
     }
 
+-- the session's meaning then
+abbrev pub rowedAs : List ℕ → ℕ → Opening → List ℕ → Session
+rowedAs s p o bs =
+    withHead
+    (withHandle (withTape (sessionOf s) p (resetTo (fresh (o .cache) (cachedFrom o)) (length bs) (cachedFrom o)) (put (ringBytes s p) 0 bs) (rowStaged o)) p (rowHandle s o))
+    (rowHead s)
+
 pub record RowsIn (s : List ℕ) (p : ℕ) (o : Opening) (bs : List ℕ) : Type 0 where
   pub ring : ringOf (rowed s p o bs) p ≡ resetTo (fresh (o .cache) (cachedFrom o)) (length bs) (cachedFrom o)
   pub cache : ringBytes (rowed s p o bs) p ≡ put (ringBytes s p) 0 bs
@@ -274,12 +246,7 @@ pub record RowsIn (s : List ℕ) (p : ℕ) (o : Opening) (bs : List ℕ) : Type 
   pub others : (q : ℕ) → q < 8 → q ≢ p → AsBefore s (rowed s p o bs) q
   pub other-handles : (q : ℕ) → q < 8 → q ≢ p → handleOf (rowed s p o bs) q ≡ handleOf s q
   pub tracking : sessionOf (rowed s p o bs) .tracking ≡ sessionOf s .tracking
-  pub whole : sessionOf (rowed s p o bs)
-      ≡ withHead
-      (withHandle
-      (withTape (sessionOf s) p (resetTo (fresh (o .cache) (cachedFrom o)) (length bs) (cachedFrom o)) (put (ringBytes s p) 0 bs) (rowStaged o))
-      p (rowHandle s o))
-      (rowHead s)
+  pub whole : sessionOf (rowed s p o bs) ≡ rowedAs s p o bs
 
 module _ (s : List ℕ) (ready : Ready s) (bytes : Bytes s) (p : ℕ) (low : p < 8) (o : Opening) (bs : List ℕ) (fits : RowFits s p o bs) (more : nextHandle s < 2 ^ 64)
     (len : o .len < 2 ^ 64) (start : o .start < 2 ^ 64) where
@@ -296,12 +263,7 @@ module _ (s : List ℕ) (ready : Ready s) (bytes : Bytes s) (p : ℕ) (low : p <
   unfolding headOf
   head-fits = record { epoch = numAt-lt 8 s headAt bytes; transaction = numAt-lt 8 s (headAt + 24) bytes; handle = more }
 
-  rowed-means : sessionOf (rowed s p o bs)
-      ≡ withHead
-      (withHandle
-      (withTape (sessionOf s) p (resetTo (fresh (o .cache) (cachedFrom o)) (length bs) (cachedFrom o)) (put (ringBytes s p) 0 bs) (rowStaged o))
-      p (rowHandle s o))
-      (rowHead s)
+  rowed-means : sessionOf (rowed s p o bs) ≡ rowedAs s p o bs
   unfolding rowed
   rowed-means =
       let small : o .cache < 2 ^ 64 = omega (arith, fits .cache-small) in
@@ -343,9 +305,9 @@ module _ (s : List ℕ) (ready : Ready s) (bytes : Bytes s) (p : ℕ) (low : p <
 -- ---- a staged record alone, and the ends of transactions
 
 -- the numbers of a ring that is read are those of an area of bytes
-ring-numbers : (s : List ℕ) → Bytes s → (p : ℕ) → RingNumbers (ringOf s p)
+read-numbers : (s : List ℕ) → Bytes s → (p : ℕ) → RingNumbers (ringOf s p)
 unfolding ringOf
-ring-numbers s bytes p =
+read-numbers s bytes p =
     record { capacity = numAt-lt 8 s _ bytes; start = numAt-lt 8 s _ bytes; len = numAt-lt 8 s _ bytes; first = numAt-lt 8 s _ bytes }
 
 module _ (s : List ℕ) (ready : Ready s) (p : ℕ) (low : p < 8) where
@@ -373,13 +335,13 @@ module _ (s : List ℕ) (ready : Ready s) (p : ℕ) (low : p < 8) where
     pub cut-becomes : Becomes s (cutRing p s) p (truncated (ringOf s p) (stagedOf s p .len)) (ringBytes s p) untouched
     unfolding cutRing truncated
     cut-becomes =
-        let r = ring-numbers s bytes p in
+        let r = read-numbers s bytes p in
         ended (truncated (ringOf s p) (stagedOf s p .len)) (record { capacity = r .capacity; start = r .start; len = omega (arith, r .len); first = r .first })
 
     -- a dropped append's
     pub reverted-becomes : Becomes s (reverted p s) p (popped (ringOf s p) (stagedOf s p .len - stagedOf s p .base)) (ringBytes s p) untouched
     unfolding reverted unstage popped
     reverted-becomes =
-        let r = ring-numbers s bytes p in
+        let r = read-numbers s bytes p in
         ended (popped (ringOf s p) (stagedOf s p .len - stagedOf s p .base))
         (record { capacity = r .capacity; start = r .start; len = omega (arith, r .len); first = omega (arith, r .first) })

@@ -17,8 +17,7 @@ use Rattle.components.specs.PiecesLaws.{piece-number, next-number, left-some, f
 use Rattle.components.specs.FileBytes.{written}
 use Rattle.components.specs.Files.{File, Files, untracked, writeByte, write}
 use Rattle.components.specs.Slots.{covered}
-use Rattle.components.specs.SlotsLaws.{covered-none}
-use Rattle.joins.specs.Ranges.{covered-some}
+use Rattle.components.specs.SlotsLaws.{covered-none, covered-some}
 
 abbrev pub withBytes : File → List ℕ → File
 withBytes f bs = record { there = f .there; tracked = f .tracked; mark = f .mark; bytes = bs }

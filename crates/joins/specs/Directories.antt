@@ -24,7 +24,7 @@ use Rattle.layout.specs.Disk.{directories, owner, Sound}
 use Rattle.layout.specs.Session.{fileSize}
 use Rattle.disk.specs.Steps.{addAt, addDirectory}
 use Rattle.disk.specs.StepLaws.{directory-low}
-use Rattle.disk.specs.SoundLaws.{sound-emptyDirectory, sound-addDirectory}
+use Rattle.disk.specs.SoundLaws.{sound-emptyDirectory}
 use Rattle.disk.specs.Meaning.{Disk, diskOf, slotWith, directoryNamed, fileCount, withDirectory}
 use Rattle.disk.specs.Meaning as Meaning
 use Rattle.disk.specs.FileLaws.{with-is}
@@ -44,7 +44,7 @@ use Rattle.ending.specs.StepLaws.{Whole}
 use Rattle.joins.specs.FilesAt.{filesAt, Once}
 use Rattle.joins.specs.Tracks.{Changed, changed-then, retrackedAt, trackings-retracked, whole-retracked, changed-track, changed-mark}
 use Rattle.joins.specs.Freed.{Single, once-single, single-once, slot-left, slot-never, Thinned, changed-thinned}
-use Rattle.joins.specs.Removes.{changed-removed, whole-removed}
+use Rattle.joins.specs.Removes.{changed-removed}
 
 -- ---- names that stay
 
@@ -151,11 +151,6 @@ module _ (a : Areas) (wanted : List ℕ) (place : ℕ) (whole : Whole a) (empty 
       ap (λ (f : Found). diskOf (addAt e wanted f .area)) found
       ∙ disk-putName e (whole-emptied a place whole .sound) place wanted (directory-low (a .disk) [] place empty) small
 
-  pub whole-added : Whole (added a wanted (At place))
-  whole-added =
-      let was = whole-emptied a place whole in
-      record { sound = sound-addDirectory (emptied a place .disk) (was .sound) wanted small; begun = was .begun; bytes = was .bytes }
-
   pub changed-added : Once (a .disk) → Changed a (added a wanted (At place)) place noFiles
   changed-added once =
       let first = changed-emptied a place whole once in
@@ -232,10 +227,6 @@ module _ (a : Areas) (place : ℕ) (o : Opening) (began : ℕ) (whole : Whole a)
       let two = changed-then a tracked marked place _ (markBelow first-kept began) one (changed-mark tracked place whole-tracked once first-kept began fits) in
       changed-then a marked _ place _ (remove limit) two (changed-removed marked place limit whole-marked once)
 
-  pub whole-taken : Whole (takenFiles a place o began)
-  unfolding takenFiles
-  whole-taken = whole-removed marked place 0xffff_ffff_ffff_ffff whole-marked
-
   pub names-taken : (n : List ℕ) → findName (takenFiles a place o began .disk) directories n ≡ findName (a .disk) directories n
   unfolding takenFiles
   names-taken n = names-removed marked place 0xffff_ffff_ffff_ffff (whole .sound) n
@@ -258,11 +249,3 @@ module _ (a : Areas) (began oldest p place : ℕ) (whole : Whole a) (fits : bega
   unfolding ripenedAt
   changed-ripened once =
       changed-then a below _ place _ (remove oldest) (changed-mark a place whole once lowest began fits) (changed-removed below place oldest whole-below once)
-
-  pub whole-ripened : Whole (ripenedAt a began oldest p place)
-  unfolding ripenedAt
-  whole-ripened = whole-removed below place oldest whole-below
-
-  pub names-ripened : (n : List ℕ) → findName (ripenedAt a began oldest p place .disk) directories n ≡ findName (a .disk) directories n
-  unfolding ripenedAt
-  names-ripened n = names-removed below place oldest (whole .sound) n

@@ -33,8 +33,7 @@ use Rattle.session.specs.Rows.{ringOf, ringBytes, trackingOf}
 use Rattle.session.specs.declared.tracking.Tracking.{Tracking}
 use Rattle.rolling_tape.specs.Files.{fileWith, file-in, file-out}
 use Rattle.rolling_tape.specs.Reading.{reaches, pieceLies, canReadAt, canRead, bytesOf, byteOf, readRun}
-use Rattle.rolling_tape.specs.ReadingLaws.{canRead-none, can-each}
-use Rattle.rolling_tape.specs.ReadingWays.{lies-none}
+use Rattle.rolling_tape.specs.ReadingLaws.{canRead-none}
 use Rattle.rolling_tape.specs.Removal.{areas}
 use Rattle.rolling_tape.specs.Tracking.{isTracked}
 use Rattle.cached_tape.specs.ServeLaws.{length-served, serve-cached}
@@ -47,14 +46,6 @@ use Rattle.joins.specs.FilesAt.{filesAt, heldAt}
 -- something that is there just if a test says so
 abbrev pub given : {A : Type 0} → Bool → A → Option A
 given b x = cond b (some x) none
-
-abbrev pub isSome : {A : Type 0} → Option A → Bool
-isSome none = false
-isSome (some x) = true
-
-pub given-is : {A : Type 0} (b : Bool) (x : A) → isSome (given b x) ≡ b
-given-is true x = refl
-given-is false x = refl
 
 -- what was there was let through, and is it
 pub given-back : {A : Type 0} (b : Bool) (x y : A) → given b x ≡ some y → (b ≡ true) × (x ≡ y)
@@ -117,12 +108,6 @@ module _ (d s : List ℕ) (sound : Sound d) (place : ℕ) where
     pub byte-there : onDiskAt fs (filesAt (areas d s) place) o ≡ given (canReadAt d s false tape fs o) (byteOf d tape fs o)
     unfolding onDiskAt
     byte-there = byte-named false
-
-    pub can-byte : canReadAt d s true tape fs o ≡ isSome (byteAt fs (filesAt (areas d s) place) o)
-    can-byte = rw byte-tracked (sym (given-is (canReadAt d s true tape fs o) (byteOf d tape fs o)))
-
-    pub is-byte : canReadAt d s true tape fs o ≡ true → byteAt fs (filesAt (areas d s) place) o ≡ some (byteOf d tape fs o)
-    is-byte can = byte-tracked ∙ rw can
 
 -- ---- a run, one byte after the other
 
@@ -233,14 +218,3 @@ module _ (d s : List ℕ) (sound : Sound d) (tape : List ℕ) (place : ℕ) (nam
 
   pub load-read : (o n : ℕ) (bs : List ℕ) → load fs (filesAt (areas d s) place) o n ≡ some bs → (canRead d s false tape fs o n ≡ true) × (readRun d tape fs o n ≡ bs)
   load-read o n bs e = given-back (canRead d s false tape fs o n) (readRun d tape fs o n) bs (sym (load-reads o n) ∙ e)
-
--- of a tape with no directory nothing can be read
-pub nothing-there : (d s tape : List ℕ) → findName d directories tape ≡ Nothing → (fs o n : ℕ) → canRead d s false tape fs o n ≡ true → n ≡ 0
-unfolding findFile
-nothing-there d s tape missing fs o zero can = refl
-nothing-there d s tape missing fs o (suc n) can =
-    let first = can-each d s false tape fs o (suc n) can 0 (omega arith) in
-    let no-file : findFile d tape (fileOf fs (o + 0)) ≡ Nothing = rw missing in
-    let never = lies-none d s false tape (fileOf fs (o + 0)) (placeIn fs (o + 0) + 1) no-file in
-    let z : _≡_ {A = ℕ} 0 1 = cc in
-    absurd (omega arith)

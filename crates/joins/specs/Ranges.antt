@@ -4,16 +4,11 @@ use mathlib.Core.Path.{_≡_, sym, ap, _∙_}
 use mathlib.Core.Bool.{Bool}
 use Prim.Native.Nat.{ℕ, _+_, _-_, _≤_, _<_}
 use native.Mathlib.Omega.{arith}
-use borrow.Author.Tests.{lt-ltb}
 use Rattle.octets.specs.Cases.{order}
 use Rattle.components.specs.Pieces.{fileOf, leftIn}
 use Rattle.components.specs.PiecesLaws.{left-some, piece-number, next-number, file-mono}
 use Rattle.components.specs.Slots.{lackingFrom, covered}
-use Rattle.components.specs.SlotsLaws.{lacking-split, covered-none}
-
-pub covered-some : (fs base end : ℕ) → base < end → covered fs base end ≡ fileOf fs (end - 1) - fileOf fs base + 1
-unfolding covered
-covered-some fs base end h = rw (lt-ltb base end h)
+use Rattle.components.specs.SlotsLaws.{lacking-split, covered-none, covered-some}
 
 -- fewer numbers lack no more
 pub lacking-within : (there : ℕ → Bool) (k e j c : ℕ) → k ≤ j → j + c ≤ k + e → lackingFrom there j c ≤ lackingFrom there k e

@@ -26,13 +26,13 @@ use Rattle.session.specs.Rows.{putTracking}
 use Rattle.session.specs.declared.tracking.Tracking.the-variants.{Untracked}
 use Rattle.rolling_tape.specs.Tracking.{isRipe}
 use Rattle.rolling_tape.specs.Removal.{Areas, areas, goes, removeSlot, removeRipe}
-use Rattle.rolling_tape.specs.RemovalLaws.{slots-removeSlot, sound-removeSlot, slots-removeRipe, sound-removeRipe, begun-removeRipe, bytes-removeRipe-session}
+use Rattle.rolling_tape.specs.RemovalLaws.{slots-removeSlot, sound-removeSlot, slots-removeRipe}
 use Rattle.rolling_tape.specs.Files.{fileWith, file-in, file-out}
 use Rattle.ending.specs.StepLaws.{Whole}
 use Rattle.joins.specs.FilesAt.{filesAt, Once}
 use Rattle.joins.specs.Tracks.{Changed}
 use Rattle.joins.specs.Freed.{once-single, slot-left, slot-stays, slot-never, Thinned, changed-thinned}
-use Rattle.joins.specs.Ripe.{Row, noRow, rowAt, stopsRow, stopping, going, going-mine, going-ripe, ripe-stops, going-bytes, going-removes, all-same}
+use Rattle.joins.specs.Ripe.{SlotRow, noSlotRow, rowAt, stopsRow, stopping, going, going-mine, going-ripe, ripe-stops, going-bytes, going-removes, all-same}
 
 -- ---- the sweep
 
@@ -53,7 +53,7 @@ module _ (a : Areas) (i : ℕ) (sound : Sound (a .disk)) (ready : Ready (a .sess
       let few = sound .head .few in
       ap (λ (m : Session). m .tracking j) (session-putTracking (a .session) i Untracked ready (omega arith) (record { epoch = omega arith }))
 
-  row-new : rowAt (without a i) i ≡ noRow
+  row-new : rowAt (without a i) i ≡ noSlotRow
   row-new = rw (slot-without i, tracking-without i, eq-eqb i i refl)
 
   row-old : (j : ℕ) → j ≢ i → rowAt (without a i) j ≡ rowAt a j
@@ -64,7 +64,7 @@ record Swept (a b : Areas) (place oldest : ℕ) : Type 0 where
   sound : Sound (b .disk)
   ready : Ready (b .session)
   same : slots (b .disk) ≡ slots (a .disk)
-  rows : (i : ℕ) → i < slots (a .disk) → (rowAt b i ≡ rowAt a i) ⊎ ((goesAt a place oldest i ≡ true) × (rowAt b i ≡ noRow))
+  rows : (i : ℕ) → i < slots (a .disk) → (rowAt b i ≡ rowAt a i) ⊎ ((goesAt a place oldest i ≡ true) × (rowAt b i ≡ noSlotRow))
 
 module _ (a b : Areas) (place oldest : ℕ) (swept : Swept a b place oldest) where
   -- a file that went stopped nobody
@@ -73,7 +73,7 @@ module _ (a b : Areas) (place oldest : ℕ) (swept : Swept a b place oldest) whe
   stops-same n j low =
       ⊎-elim
       (λ (e : rowAt b j ≡ rowAt a j). ap (stopsRow place oldest n) e)
-      (λ (e : (goesAt a place oldest j ≡ true) × (rowAt b j ≡ noRow)).
+      (λ (e : (goesAt a place oldest j ≡ true) × (rowAt b j ≡ noSlotRow)).
       ap (stopsRow place oldest n) (e .1)
       ∙ (rw (ne-eqb 0 (place + 1) (λ z. omega arith)))
       ∙ sym (ripe-stops (diskOf (a .disk)) (sessionOf (a .session) .tracking) place oldest n j (going-ripe (diskOf (a .disk)) (sessionOf (a .session) .tracking) place oldest j (e .0))))
@@ -84,7 +84,7 @@ module _ (a b : Areas) (place oldest : ℕ) (swept : Swept a b place oldest) whe
   goes-same i low e =
       let old = rowAt a i in
       ap
-      (λ (r : Row).
+      (λ (r : SlotRow).
       eqb (r .slot .owner) (place + 1)
       && (isRipe oldest (r .tracking) && all (λ j. not (stopsRow place oldest (r .slot .number) (rowAt b j))) (diskOf (b .disk) .slots) 0)) e
       ∙ ap (λ (x : Bool). eqb (old .slot .owner) (place + 1) && (isRipe oldest (old .tracking) && x)) (clear (old .slot .number))
@@ -115,17 +115,17 @@ module _ (a : Areas) (place oldest : ℕ) (few : slots (a .disk) ≤ 64) where
     went t =
         ⊎-elim
         (λ (e : rowAt b i ≡ rowAt a i). sym (goes-same a b place oldest swept i l e) ∙ sym now ∙ t)
-        (λ (e : (goesAt a place oldest i ≡ true) × (rowAt b i ≡ noRow)). e .0)
+        (λ (e : (goesAt a place oldest i ≡ true) × (rowAt b i ≡ noSlotRow)). e .0)
         (swept .rows i l)
 
-    stayed : goes (b .disk) (b .session) place oldest i ≡ false → rowAt b i ≡ cond (goesAt a place oldest i) noRow (rowAt b i)
+    stayed : goes (b .disk) (b .session) place oldest i ≡ false → rowAt b i ≡ cond (goesAt a place oldest i) noSlotRow (rowAt b i)
     stayed t =
         ⊎-elim
         (λ (e : rowAt b i ≡ rowAt a i). rw (sym (goes-same a b place oldest swept i l e) ∙ sym now ∙ t))
-        (λ (e : (goesAt a place oldest i ≡ true) × (rowAt b i ≡ noRow)). rw (e .0) (e .1))
+        (λ (e : (goesAt a place oldest i ≡ true) × (rowAt b i ≡ noSlotRow)). rw (e .0) (e .1))
         (swept .rows i l)
 
-  each : Rowwise (λ b. Swept a b place oldest) rowAt (removeSlot place oldest) (λ i r. cond (goesAt a place oldest i) noRow r) (slots (a .disk))
+  each : Rowwise (λ b. Swept a b place oldest) rowAt (removeSlot place oldest) (λ i r. cond (goesAt a place oldest i) noSlotRow r) (slots (a .disk))
   each =
       record {
         keeps = λ i b l p.
@@ -135,7 +135,7 @@ module _ (a : Areas) (place oldest : ℕ) (few : slots (a .disk) ≤ 64) where
               ready = turn place oldest i b (λ c. Ready (c .session)) (λ t. ready-putTracking (b .session) i Untracked (p .ready) (omega arith)) (λ t. p .ready);
               same = slots-removeSlot place oldest i b ∙ p .same;
               rows = λ j m.
-                  turn place oldest i b (λ c. (rowAt c j ≡ rowAt a j) ⊎ ((goesAt a place oldest j ≡ true) × (rowAt c j ≡ noRow)))
+                  turn place oldest i b (λ c. (rowAt c j ≡ rowAt a j) ⊎ ((goesAt a place oldest j ≡ true) × (rowAt c j ≡ noSlotRow)))
                   (λ t.
                   equal j i
                   (λ (e : j ≡ i). rw e (inr (went b p i l t, row-new b i (p .sound) (p .ready) in-b)))
@@ -143,7 +143,7 @@ module _ (a : Areas) (place oldest : ℕ) (few : slots (a .disk) ≤ 64) where
                   (λ t. p .rows j m);
             };
         own = λ i b l p.
-            turn place oldest i b (λ c. rowAt c i ≡ cond (goesAt a place oldest i) noRow (rowAt b i))
+            turn place oldest i b (λ c. rowAt c i ≡ cond (goesAt a place oldest i) noSlotRow (rowAt b i))
             (λ t. rw (went b p i l t) (row-new b i (p .sound) (p .ready) (low b p i l)))
             (λ t. stayed b p i l t);
         other = λ i j b l m d p.
@@ -153,16 +153,16 @@ module _ (a : Areas) (place oldest : ℕ) (few : slots (a .disk) ≤ 64) where
 -- ---- the whole of it
 
 module _ (a : Areas) (place oldest : ℕ) (whole : Whole a) where
-  row-removed : (i : ℕ) → i < slots (a .disk) → rowAt (removeRipe a place oldest) i ≡ cond (goesAt a place oldest i) noRow (rowAt a i)
+  row-removed : (i : ℕ) → i < slots (a .disk) → rowAt (removeRipe a place oldest) i ≡ cond (goesAt a place oldest i) noSlotRow (rowAt a i)
   unfolding removeRipe
   row-removed i l =
-      sweep-row (λ b. Swept a b place oldest) rowAt (removeSlot place oldest) (λ i r. cond (goesAt a place oldest i) noRow r) (slots (a .disk))
+      sweep-row (λ b. Swept a b place oldest) rowAt (removeSlot place oldest) (λ i r. cond (goesAt a place oldest i) noSlotRow r) (slots (a .disk))
       (each a place oldest (whole .sound .head .few)) (slots (a .disk)) 0 a i (omega arith)
       (record { sound = whole .sound; ready = begun-ready (a .session) (whole .begun); same = refl; rows = λ j m. inl refl })
       (omega arith)
       (omega arith)
 
-  row-left : (i : ℕ) → i < slots (a .disk) → goesAt a place oldest i ≡ true → rowAt (removeRipe a place oldest) i ≡ noRow
+  row-left : (i : ℕ) → i < slots (a .disk) → goesAt a place oldest i ≡ true → rowAt (removeRipe a place oldest) i ≡ noSlotRow
   row-left i l e = row-removed i l ∙ rw e
 
   row-kept : (i : ℕ) → i < slots (a .disk) → goesAt a place oldest i ≡ false → rowAt (removeRipe a place oldest) i ≡ rowAt a i
@@ -177,15 +177,15 @@ module _ (a : Areas) (place oldest : ℕ) (whole : Whole a) where
           slot = λ i l.
               let low : i < slots (a .disk) = rw (slots-in (a .disk)) at l in
               decide (goesAt a place oldest i)
-              (λ (e : goesAt a place oldest i ≡ true). rw e (ap (λ (r : Row). r .slot) (row-left i low e)))
-              (λ (e : goesAt a place oldest i ≡ false). rw e (ap (λ (r : Row). r .slot) (row-kept i low e)));
+              (λ (e : goesAt a place oldest i ≡ true). rw e (ap (λ (r : SlotRow). r .slot) (row-left i low e)))
+              (λ (e : goesAt a place oldest i ≡ false). rw e (ap (λ (r : SlotRow). r .slot) (row-kept i low e)));
           mine = λ i l e. going-mine (diskOf (a .disk)) (sessionOf (a .session) .tracking) place oldest i e;
         };
         rest = λ i l away.
             decide (goesAt a place oldest i)
             (λ (e : goesAt a place oldest i ≡ true).
             absurd (away (sym (owner-in (a .disk) i l) ∙ going-mine (diskOf (a .disk)) (sessionOf (a .session) .tracking) place oldest i e)))
-            (λ (e : goesAt a place oldest i ≡ false). ap (λ (r : Row). r .tracking) (row-kept i l e));
+            (λ (e : goesAt a place oldest i ≡ false). ap (λ (r : SlotRow). r .tracking) (row-kept i l e));
       }
 
   module _ (once : Once (a .disk)) where
@@ -208,7 +208,7 @@ module _ (a : Areas) (place oldest : ℕ) (whole : Whole a) where
             ∙ sym (remove-gone oldest (filesAt a place) k (sym same ∙ g)))
             (λ (g : goesAt a place oldest i ≡ false).
             file-in n u place k i (slot-stays m n place (goesAt a place oldest) freed k i e g)
-            ∙ ap (λ (r : Row). fileWith (r .slot .bytes) (r .tracking)) (row-kept i low g)
+            ∙ ap (λ (r : SlotRow). fileWith (r .slot .bytes) (r .tracking)) (row-kept i low g)
             ∙ sym (file-in m t place k i e)
             ∙ sym (remove-kept oldest (filesAt a place) k (sym same ∙ g)))
         by k Nothing e =
@@ -223,13 +223,3 @@ module _ (a : Areas) (place oldest : ℕ) (whole : Whole a) where
 
     pub changed-removed : Changed a (removeRipe a place oldest) place (remove oldest (filesAt a place))
     changed-removed = changed-thinned a (removeRipe a place oldest) place (goesAt a place oldest) (remove oldest (filesAt a place)) once thinned-removed own-removed
-
--- both areas stay what the steps start from
-pub whole-removed : (a : Areas) (place oldest : ℕ) → Whole a → Whole (removeRipe a place oldest)
-whole-removed a place oldest whole =
-    let few = whole .sound .head .few in
-    record {
-      sound = sound-removeRipe a place oldest (whole .sound);
-      begun = begun-removeRipe a place oldest few (whole .begun);
-      bytes = bytes-removeRipe-session a place oldest few (whole .begun .long) (whole .bytes);
-    }

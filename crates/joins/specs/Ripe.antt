@@ -1,9 +1,9 @@
 -- Which files a removal takes, said of the slots and said of the numbers: they are the same, where each file has one slot. Assumes nothing.
 use mathlib.Core.Path.{_≡_, refl, sym, ap, _∙_}
 use mathlib.Core.Logic.{_≢_}
-use mathlib.Core.Bool.{Bool, true, false, not, _&&_, _||_, true≢false, false≢true, and-false}
+use mathlib.Core.Bool.{Bool, true, false, not, _&&_, true≢false, false≢true, and-false}
 use mathlib.Core.List.{List}
-use Prim.Native.Nat.{ℕ, zero, suc, _+_, _≤_, _<_}
+use Prim.Native.Nat.{ℕ, _+_, _≤_, _<_}
 use native.Mathlib.Omega.{arith}
 use borrow.Author.Tests.{eqb-true, eq-eqb, le-leb, leb-true}
 use lib.Dec.{eqb, leb}
@@ -13,6 +13,7 @@ use Rattle.octets.specs.declared.Found.{Found}
 use Rattle.octets.specs.declared.Found.the-variants.{At, Nothing}
 use Rattle.layout.specs.Disk.{slots, owner}
 use Rattle.components.specs.Files.{Files, markedBelow, ripeBelow, removes}
+use Rattle.components.specs.MarkLaws.{ripe-at, →ripe}
 use Rattle.disk.specs.Meaning.{Slot, Disk, free, diskOf, slotWith}
 use Rattle.disk.specs.MeaningLaws.{owner-in, number-in, slots-in}
 use Rattle.disk.specs.FileLaws.{with-low, with-is}
@@ -42,18 +43,18 @@ all-same p q k h =
 -- ---- which files go, of the meaning
 
 -- a slot, and the tracking of its file
-pub record Row : Type 0 where
+pub record SlotRow : Type 0 where
   pub slot : Slot
   pub tracking : Tracking
 
-abbrev pub noRow : Row
-noRow = record { slot = free; tracking = Untracked }
+abbrev pub noSlotRow : SlotRow
+noSlotRow = record { slot = free; tracking = Untracked }
 
-abbrev pub rowAt : Areas → ℕ → Row
+abbrev pub rowAt : Areas → ℕ → SlotRow
 rowAt a i = record { slot = diskOf (a .disk) .slot i; tracking = sessionOf (a .session) .tracking i }
 
 -- a row has a tracked file, up to number n, that may not go
-abbrev pub stopsRow : (place oldest n : ℕ) → Row → Bool
+abbrev pub stopsRow : (place oldest n : ℕ) → SlotRow → Bool
 stopsRow place oldest n r = eqb (r .slot .owner) (place + 1) && (leb (r .slot .number) n && (isTracked (r .tracking) && not (isRipe oldest (r .tracking))))
 
 module _ (m : Disk) (t : ℕ → Tracking) (place oldest : ℕ) where
@@ -84,25 +85,6 @@ going-bytes d s place oldest i few low =
     (all-same _ _ (slots d) (λ j l. rw (owner-in d j l, number-in d j l, tracking-at s j (omega arith)))))
 
 -- ---- .. and of the numbers
-
--- every tracked file below is marked below the limit, and back (both stand in components/MarkLaws too, private there)
-ripe-at : (oldest : ℕ) (f : Files) (k j : ℕ) → j < k → f j .tracked ≡ true → ripeBelow oldest f k ≡ true → markedBelow oldest (f j .mark) ≡ true
-unfolding ripeBelow
-ripe-at oldest f zero j l t h = absurd (omega arith)
-ripe-at oldest f (suc k) j l t h =
-    let ih = ripe-at oldest f k j in
-    equal j k
-    (λ (e : j ≡ k).
-    let u : f k .tracked ≡ true = rw e at t in
-    rw e (rw u at (and-l (not (f k .tracked) || markedBelow oldest (f k .mark)) _ h)))
-    (λ (d : j ≢ k). ih (omega arith) t (and-r (not (f k .tracked) || markedBelow oldest (f k .mark)) _ h))
-
-→ripe : (oldest : ℕ) (f : Files) (k : ℕ) → ((j : ℕ) → j < k → f j .tracked ≡ true → markedBelow oldest (f j .mark) ≡ true) → ripeBelow oldest f k ≡ true
-unfolding ripeBelow
-→ripe oldest f zero g = refl
-→ripe oldest f (suc k) g =
-    let rest : ripeBelow oldest f k ≡ true = →ripe oldest f k (λ j l. g j (omega arith)) in
-    decide (f k .tracked) (λ u. rw (u, g k (omega arith) u, rest)) (λ u. rw (u, rest))
 
 ripe-marked : (oldest : ℕ) (r : Tracking) → isRipe oldest r ≡ markedBelow oldest (markOf r)
 ripe-marked oldest Untracked = refl

@@ -6,7 +6,7 @@ use mathlib.Core.List.{List, [], _++_}
 use Prim.Native.Nat.{ℕ, _+_, _≤_, _<_, _^_}
 use native.Mathlib.Omega.{arith}
 use lib.ListN.{length}
-use Rattle.octets.specs.Cases.{picked, decide}
+use Rattle.octets.specs.Cases.{decide}
 use Rattle.components.specs.Pieces.{fileOf}
 use Rattle.components.specs.PiecesLaws.{file-mono}
 use Rattle.components.specs.Files.{Files, write}
@@ -88,9 +88,6 @@ module _ (a : Areas) (place p : ℕ) (row : Staged) (lacks : Lacks a place p row
       (filesCovered (fileSize (a .session) p) (unwrittenFrom row) (row .len))
       (flush (fileSize (a .session) p) (row .len) (heldAt a place p (row .unwritten)))
   flushed-files = flushed-up-to a place p row (row .len) lacks (omega arith)
-
-  pub clean-flushed : Clean (flushed a place p row)
-  clean-flushed = clean-up-to a place p row (row .len) lacks (omega arith)
 
 -- ---- a put
 
@@ -208,10 +205,3 @@ module _ (a : Areas) (place p : ℕ) (row : Staged) (bs : List ℕ) (lacks : Lac
       (decide (pushesOut ring (row .unwritten) (length bs))
       (λ (h : pushesOut ring (row .unwritten) (length bs) ≡ true). rw h sent-lacked)
       (λ (h : pushesOut ring (row .unwritten) (length bs) ≡ false). rw h sent-nothing)))
-
-  pub clean-sent : Clean (sentTo a place p row bs)
-  unfolding sentTo
-  clean-sent =
-      picked Clean (fills ring (length bs)) _ _
-      (λ e. clean-wrote then place size (row .len) bs then-ready)
-      (λ e. picked Clean (pushesOut ring (row .unwritten) (length bs)) _ _ (λ h. clean-up-to a place p row end lacks (omega arith)) (λ h. lacks .clean))

@@ -4,8 +4,7 @@ use mathlib.Core.Path.{_≡_, refl, ap, fun-ext, _∙_}
 use mathlib.Core.Logic.{_≢_}
 use Prim.Native.Nat.{ℕ, _≤_, _<_, _^_}
 use native.Mathlib.Omega.{arith}
-use Rattle.components.specs.Files.{Files, track, markBelow, clearFrom}
-use Rattle.held.specs.Held.{forget}
+use Rattle.components.specs.Files.{Files, track, markBelow}
 use Rattle.disk.specs.Steps.{files}
 use Rattle.disk.specs.Meaning.{diskOf}
 use Rattle.session.specs.Meaning.{Session, sessionOf}
@@ -17,7 +16,7 @@ use Rattle.rolling_tape.specs.Tracking.{retracked}
 use Rattle.rolling_tape.specs.TrackingLaws.{ChangeFits, begun-retracked, bytes-retracked, session-retracked}
 use Rattle.rolling_tape.specs.Files.{filesOf, changedIn, changedFile, files-changed, files-unchanged}
 use Rattle.rolling_tape.specs.declared.tracking.Change.{Change}
-use Rattle.rolling_tape.specs.declared.tracking.Change.the-variants.{TrackUpTo, MarkBelow, ClearFrom, UntrackAll}
+use Rattle.rolling_tape.specs.declared.tracking.Change.the-variants.{TrackUpTo, MarkBelow}
 use Rattle.ending.specs.StepLaws.{Whole}
 use Rattle.joins.specs.FilesAt.{filesAt, Once}
 use Rattle.joins.specs.Slots.{retracks-in}
@@ -90,10 +89,3 @@ module _ (a : Areas) (place : ℕ) (whole : Whole a) (once : Once (a .disk)) whe
 
   pub changed-mark : (n e : ℕ) → e < 2 ^ 64 → Changed a (retrackedAt a place (MarkBelow n e)) place (markBelow n e (filesAt a place))
   changed-mark n e small = changed-retracked a place (MarkBelow n e) whole (record { epoch = small }) once
-
-  pub changed-clear : (n : ℕ) → Changed a (retrackedAt a place (ClearFrom n)) place (clearFrom n (filesAt a place))
-  changed-clear n = changed-retracked a place (ClearFrom n) whole (record { epoch = omega arith }) once
-
-  pub changed-forget : Changed a (retrackedAt a place UntrackAll) place (forget (filesAt a place))
-  unfolding forget
-  changed-forget = changed-retracked a place UntrackAll whole (record { epoch = omega arith }) once

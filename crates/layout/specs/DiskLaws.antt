@@ -58,8 +58,8 @@ module _ (s : List ℕ) (i : ℕ) where
   pub bad-owner : 8 < owner s i → entryFits s i ≡ false
   bad-owner h = rw (lt-leb (owner s i) 8 h)
 
-  pub bad-length : owner s i ≤ 8 → 4096 < len s i → entryFits s i ≡ false
-  bad-length o h = rw (le-leb (owner s i) 8 o, lt-leb (len s i) 4096 h)
+  pub by-length : owner s i ≤ 8 → entryFits s i ≡ leb (len s i) 4096
+  by-length o = rw (le-leb (owner s i) 8 o)
 
   pub good-entry : owner s i ≤ 8 → len s i ≤ 4096 → entryFits s i ≡ true
   good-entry o h = rw (le-leb (owner s i) 8 o, le-leb (len s i) 4096 h)

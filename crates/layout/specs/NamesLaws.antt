@@ -13,8 +13,9 @@ use Rattle.octets.specs.Number.{le, putNum, Bytes, length-le, bytes-le, length-
 use Rattle.octets.specs.Only.{OnlyIn, only-put, only-putNum, only-then, only-wider, numAt-only, part-only, bytes-put}
 use Rattle.octets.specs.Cases.{equal}
 use Rattle.octets.specs.Compare.{sameBytes}
-use Rattle.octets.specs.First.{first, first-same, all, all-true, all-holds}
+use Rattle.octets.specs.First.{first, first-same, first-hits, all, all-true, all-holds}
 use Rattle.octets.specs.Words.{with-row, table-in, table-same, table-row}
+use Rattle.octets.specs.declared.Found.the-variants.{At}
 use Rattle.layout.specs.Names.{placeAt, letters, nameFits, NamesFit, name, names, findName, putName}
 
 -- ---- the rule, and what it gives
@@ -39,6 +40,11 @@ module _ (s : List ℕ) (base : ℕ) where
   find-names w =
       first-same (λ i. sameBytes (name s base i) w) (λ i. sameBytes (names s base i) w) 8 0
       (λ i l h. ap (λ (n : List ℕ). sameBytes n w) (sym (table-in 8 [] (name s base) i (omega arith))))
+
+  -- a place that is found is one of eight
+  pub name-low : (w : List ℕ) (p : ℕ) → findName s base w ≡ At p → p < 8
+  unfolding findName
+  name-low w p e = first-hits _ 8 0 p e .high
 
 -- ---- a step that stays elsewhere
 

@@ -1,7 +1,7 @@
 // The disk's area and its rule.
 use crate::names::names_fit;
 ghost use mathlib.Core.Path.{_≡_};
-ghost use Prim.Native.Nat.{_≤_, _<_};
+ghost use Prim.Native.Nat.{_+_, _-_, _≤_, _<_};
 ghost use Rattle.octets.specs.First.{all};
 ghost use Rattle.layout.specs.Disk.{HeadSound, dataAt, headFits, entryFits, slots, sound};
 
@@ -79,25 +79,68 @@ fn head_fits(disk: &[u8]) -> bool
     octets::u64_at(disk, Disk::RIGHT_LEN) as usize <= Disk::SIDE_BYTES
 }
 
-// Whether the owner of each slot is a directory's place plus 1, or 0, and no file is longer than its
+// Whether the owner of a slot is a directory's place plus 1, or 0, and its file is no longer than a
 // slot.
+fn entry_fits(disk: &[u8], slot: usize) -> bool
+    requires { ⌜ HeadSound (now disk) × (slot < slots (now disk)) ⌝ }
+    ensures { λ r. ⌜ r ≡ entryFits (now (disk .entry)) slot ⌝ }
+{
+    let entry = Disk::ENTRIES + slot * Disk::ENTRY_BYTES;
+    if Disk::MOST_DIRECTORIES < octets::u64_at(disk, entry) as usize {
+        return false;
+    }
+    octets::u64_at(disk, entry + 16) as usize <= Disk::SLOT_BYTES
+}
+
+// The same of the slots from one on up to another.
+fn each_fits(disk: &[u8], from: usize, to: usize) -> bool
+    requires { ⌜ HeadSound (now disk) × (to ≤ slots (now disk)) ⌝ }
+    ensures { λ r. ⌜ r ≡ all (entryFits (now (disk .entry))) (to - from) from ⌝ }
+{
+    let mut i = from;
+    while i < to {
+        if entry_fits(disk, i) {
+            i += 1;
+        } else {
+            return false;
+        }
+    }
+    true
+}
+
+// The same of eight slots. A loop of eight turns is unrolled, so that a slot costs its two tests and no
+// more. (`each_fits` up to slot + 8 is unrolled too, but then the compiler reads the slot count byte by
+// byte.)
+fn eight_fit(disk: &[u8], slot: usize) -> bool
+    requires { ⌜ HeadSound (now disk) × (slot + 8 ≤ slots (now disk)) ⌝ }
+    ensures { λ r. ⌜ r ≡ all (entryFits (now (disk .entry))) 8 slot ⌝ }
+{
+    let mut i = 0;
+    while i < 8 {
+        if entry_fits(disk, slot + i) {
+            i += 1;
+        } else {
+            return false;
+        }
+    }
+    true
+}
+
+// The same of all slots. Every call pays this, so it goes by eights.
 fn entries_fit(disk: &[u8]) -> bool
     requires { ⌜ HeadSound (now disk) ⌝ }
     ensures { λ r. ⌜ r ≡ all (entryFits (now (disk .entry))) (slots (now (disk .entry))) 0 ⌝ }
 {
     let count = octets::u64_at(disk, Disk::SLOT_COUNT) as usize;
     let mut i = 0;
-    while i < count {
-        let entry = Disk::ENTRIES + i * Disk::ENTRY_BYTES;
-        if Disk::MOST_DIRECTORIES < octets::u64_at(disk, entry) as usize {
+    while i + 8 <= count {
+        if eight_fit(disk, i) {
+            i += 8;
+        } else {
             return false;
         }
-        if Disk::SLOT_BYTES < octets::u64_at(disk, entry + 16) as usize {
-            return false;
-        }
-        i += 1;
     }
-    true
+    each_fits(disk, i, count)
 }
 
 // Whether a disk's area keeps the layout rule.

@@ -13,36 +13,36 @@ use Rattle.components.specs.FileBytes.{written}
 use Rattle.components.specs.Files.{byteAt, writeByte, write, markBelow, ripeBelow, remove, clearFrom, track}
 use Rattle.components.specs.Epochs.{older, least, oldestOther}
 use Rattle.held.specs.Held.{flush, putHeld, settled, takenBack, trimmed, byteIn, fetch, forget, taken, onDiskAt, load, filled}
-use Rattle.lives.specs.Life.{Store, Call, Answer, Bytes, Refused, restart, reader, append, truncate, open′, put, shift, cut, read, commit, drop′, find, without, view, step, blank}
+use Rattle.lives.specs.Life.{Store, TapeCall, Answer, Bytes, Refused, restart, reader, append, truncate, open′, put, shift, cut, read, commit, drop′, find, without, view, step, blank}
 use Rattle.lives.specs.Told.{Told, told, pageIn, page, nothing, closed}
 
-unfoldable run : List Call → Store → Store
+unfoldable run : List TapeCall → Store → Store
 run [] s = s
 run (c ∷ cs) s = run cs (step c s .store)
 
-unfoldable telling : List Call → Store → Told → Told
+unfoldable telling : List TapeCall → Store → Told → Told
 telling [] s t = t
 telling (c ∷ cs) s t = telling cs (step c s .store) (told t c (step c s .answer))
 
 -- the append k opens it: file size 4
-abbrev opens : (k capacity start : ℕ) → Call
+abbrev opens : (k capacity start : ℕ) → TapeCall
 opens k capacity start = open′ k 4 capacity start (replicate 16 0)
 
 -- a tape made: file size 4, cache 16, ten bytes, files 0 to 2, epoch 1
-abbrev P : List Call
+abbrev P : List TapeCall
 P = append ∷ opens 1 16 0 ∷ put 1 (0 ∷ 1 ∷ 2 ∷ 3 ∷ 4 ∷ 5 ∷ 6 ∷ 7 ∷ 8 ∷ 9 ∷ []) ∷ commit 1 ∷ []
 
 -- .. then a shift to 8, a cut to 2, and x put
-abbrev back : List Call
+abbrev back : List TapeCall
 back = P ++ (append ∷ shift 2 8 ∷ commit 2 ∷ truncate ∷ cut 3 2 ∷ commit 3 ∷ append ∷ put 4 (0x78 ∷ []) ∷ commit 4 ∷ [])
 
-abbrev asks : List Call → Call → Answer
+abbrev asks : List TapeCall → TapeCall → Answer
 asks cs c = step c (run cs blank) .answer
 
-abbrev file : ℕ → List Call → List ℕ
+abbrev file : ℕ → List TapeCall → List ℕ
 file n cs = run cs blank .held .files n .bytes
 
-abbrev tells : List Call → Told
+abbrev tells : List TapeCall → Told
 tells cs = telling cs blank nothing
 
 record Lives : Type 0 where

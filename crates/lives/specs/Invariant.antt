@@ -10,8 +10,8 @@ use Rattle.held.specs.Page.{Kept, Ringed, Sound}
 use Rattle.held.specs.Held.{Held}
 use Rattle.components.specs.Pieces.{fileOf}
 use Rattle.components.specs.Files.{track}
-use Rattle.lives.specs.Life.{Reader, Writer, Store, Call, After, refuse}
-use Rattle.lives.specs.Told.{Window, Staging, idle, appending, cutting, Told, told}
+use Rattle.lives.specs.Life.{Reader, Writer, Store, TapeCall, After, refuse}
+use Rattle.lives.specs.Told.{Window, Staging, idle, appending, cutting, Told, told, withWriter, withWindows}
 
 -- what is not told; base: the tape's length when the open append got it
 pub record Phys : Type 0 where
@@ -58,7 +58,7 @@ top c idle = c
 top c (appending m h d s) = d
 top c (cutting m d) = c
 
-pub record Page (fs : ℕ) (h : Held) (E : ℕ) (cut : Bool) (C : List ℕ) (a : Bool) (w : Window) : Type 0 where
+pub record PageHeld (fs : ℕ) (h : Held) (E : ℕ) (cut : Bool) (C : List ℕ) (a : Bool) (w : Window) : Type 0 where
   pub kept : Kept fs (h .files) (w .start) (length (w .content)) (w .content)
   pub ringed : Ringed h (w .start) (length (w .content)) (w .content)
   pub marks : (k e : ℕ) → h .files k .mark ≡ some e → e < w .epoch → k < fileOf fs (w .start)
@@ -95,8 +95,8 @@ pub record Live (t : Told) (p : Phys) : Type 0 where
   pub bare : t .listed ≡ false → length (t .content) ≡ 0
   pub bounded : t .start ≤ length (t .content)
   pub below : (k e : ℕ) → p .held .files k .mark ≡ some e → k < fileOf (t .size) (t .start)
-  pub committed : Page (t .size) (p .held) (t .epoch) (t .cut) (t .content) (isAppend (t .writer)) (now t)
-  pub pages : (w : Window) → List·Memᴰ w (t .windows) → Page (t .size) (p .held) (t .epoch) (t .cut) (t .content) (isAppend (t .writer)) w
+  pub committed : PageHeld (t .size) (p .held) (t .epoch) (t .cut) (t .content) (isAppend (t .writer)) (now t)
+  pub pages : (w : Window) → List·Memᴰ w (t .windows) → PageHeld (t .size) (p .held) (t .epoch) (t .cut) (t .content) (isAppend (t .writer)) w
   pub staged : Staged (t .size) (p .touched) (p .held) (t .content) (t .start) (t .writer)
 
 -- a page of a sleeping tape is part of what is committed
@@ -127,16 +127,64 @@ GoodIf false t p = Dormant t p
 abbrev pub Good : Told → Phys → Type 0
 Good t p = GoodIf (t .live) t p
 
-pub record Goes (t : Told) (c : Call) (a : After) : Type 0 where
+pub record Goes (t : Told) (c : TapeCall) (a : After) : Type 0 where
   pub phys : Phys
   pub same : a .store ≡ build (told t c (a .answer)) phys
   pub good : Good (told t c (a .answer)) phys
 
-pub refused : (t : Told) (p : Phys) (c : Call) (x v : ℕ) → Good t p → Goes t c (refuse x v (build t p))
+pub refused : (t : Told) (p : Phys) (c : TapeCall) (x v : ℕ) → Good t p → Goes t c (refuse x v (build t p))
 refused t p c x v g = record { phys = p; same = refl; good = g }
 
-pub goes : (t : Told) (c : Call) (a : After) (t′ : Told) (p : Phys) → told t c (a .answer) ≡ t′ → a .store ≡ build t′ p → Good t′ p → Goes t c a
+pub goes : (t : Told) (c : TapeCall) (a : After) (t′ : Told) (p : Phys) → told t c (a .answer) ≡ t′ → a .store ≡ build t′ p → Good t′ p → Goes t c a
 goes t c a t′ p e s g = record { phys = p; same = rw e s; good = rw e g }
 
-pub no-taller : {fs : ℕ} {h : Held} {E : ℕ} {ct : Bool} {C : List ℕ} {w : Window} → Page fs h E ct C true w → length (w .content) ≤ length C
+pub no-taller : {fs : ℕ} {h : Held} {E : ℕ} {ct : Bool} {C : List ℕ} {w : Window} → PageHeld fs h E ct C true w → length (w .content) ≤ length C
 no-taller {C} {w} f = order (length C) (length (w .content)) (λ l. absurd (true≢false (f .tall l .2))) (λ l. l)
+
+-- where only the writer's record changes, and neither whether it appends nor the length that is held, the rest stays
+module _ (t : Told) (p : Phys) (last : ℕ) (touched : Bool) where
+  pub restaged : (x y : Staging) → isAppend y ≡ isAppend x → length (top (t .content) y) ≡ length (top (t .content) x) → Live (withWriter t x true) p
+      → Staged (t .size) touched (p .held) (t .content) (t .start) y → Live (withWriter t y true) (record { last = last; touched = touched; base = p .base; held = p .held })
+  restaged x y kind long g staged =
+      record {
+        pos = g .pos;
+        sound = rw long (g .sound);
+        low = g .low;
+        even = rw kind (g .even);
+        known = g .known;
+        shown = rw kind (g .shown);
+        bare = g .bare;
+        bounded = g .bounded;
+        below = g .below;
+        committed = rw kind (g .committed);
+        pages = rw kind (g .pages);
+        staged = staged;
+      }
+
+  pub rested : (x y : Staging) → Dormant (withWriter t x false) p → touched ≡ false → Resting (t .listed) (t .content) (t .start) y
+      → Dormant (withWriter t y false) (record { last = last; touched = touched; base = p .base; held = p .held })
+  rested x y g none resting = record { pos = g .pos; bare = g .bare; bounded = g .bounded; untouched = none; kept = g .kept; pages = g .pages; staged = resting }
+
+-- and where only the windows change
+module _ (t : Told) (p : Phys) (last : ℕ) (ws : List Window) (x : Staging) where
+  pub rewindowed : Live (withWriter t x true) p → ((w : Window) → List·Memᴰ w ws → PageHeld (t .size) (p .held) (t .epoch) (t .cut) (t .content) (isAppend x) w)
+      → Live (withWindows (withWriter t x true) ws) (record { last = last; touched = p .touched; base = p .base; held = p .held })
+  rewindowed g pages =
+      record {
+        pos = g .pos;
+        sound = g .sound;
+        low = g .low;
+        even = g .even;
+        known = g .known;
+        shown = g .shown;
+        bare = g .bare;
+        bounded = g .bounded;
+        below = g .below;
+        committed = g .committed;
+        pages = pages;
+        staged = g .staged;
+      }
+
+  pub reslept : Dormant (withWriter t x false) p → ((w : Window) → List·Memᴰ w ws → Asleep (t .epoch) (t .content) (t .start) w)
+      → Dormant (withWindows (withWriter t x false) ws) (record { last = last; touched = p .touched; base = p .base; held = p .held })
+  reslept g pages = record { pos = g .pos; bare = g .bare; bounded = g .bounded; untouched = g .untouched; kept = g .kept; pages = pages; staged = g .staged }

@@ -44,14 +44,14 @@ pub record Store : Type 0 where
   pub live : Bool
   pub held : Held
 
--- offsets, lengths and starts are in bytes; the transaction's number goes first
-pub data Call : Type 0 where
-  restart reader append truncate : Call
-  open′ : (k size capacity start : ℕ) → (memory : List ℕ) → Call
-  put : ℕ → List ℕ → Call
-  shift cut : ℕ → ℕ → Call
-  read : ℕ → ℕ → ℕ → Call
-  commit drop′ : ℕ → Call
+-- a call as one tape gets it; offsets, lengths and starts are in bytes; the transaction's number goes first
+pub data TapeCall : Type 0 where
+  restart reader append truncate : TapeCall
+  open′ : (k size capacity start : ℕ) → (memory : List ℕ) → TapeCall
+  put : ℕ → List ℕ → TapeCall
+  shift cut : ℕ → ℕ → TapeCall
+  read : ℕ → ℕ → ℕ → TapeCall
+  commit drop′ : ℕ → TapeCall
 
 pub data Answer : Type 0 where
   Done : ℕ → Answer
@@ -273,7 +273,7 @@ stepDrop s k (cutting m l) = cond (eqb k m) (then (Done 0) (s .last) s (s .reade
 abbrev pub stepRead : Store → ℕ → ℕ → ℕ → After
 stepRead s k o n = record { answer = cond (s .live) (readIn (s .size) (s .held) o n (view k (s .listed) (s .start) (s .writer) (s .readers))) (Refused 2 0); store = s }
 
-unfoldable pub step : Call → Store → After
+unfoldable pub step : TapeCall → Store → After
 step restart s = stepRestart s
 step reader s = stepReader s
 step append s = stepAppend s (s .writer)

@@ -9,9 +9,9 @@ use lib.Dec.{eqb}
 use lib.ListN.{length, take, drop}
 use Rattle.octets.specs.Cases.{picked, order}
 use Rattle.held.specs.Held.{fetch}
-use Rattle.held.specs.ReadLaws.{Serves, serves, served}
+use Rattle.held.specs.ReadLaws.{Serves, serves, fetch-serves}
 use Rattle.lives.specs.Life.{Store, blank, nothingHeld}
-use Rattle.lives.specs.Told.{Window, Staging, idle, appending, cutting, Told, withWriter, told, Page, pageIn, pageOf, page, nothing}
+use Rattle.lives.specs.Told.{Window, Staging, idle, appending, cutting, Told, withWriter, Page, pageIn, pageOf, page, nothing}
 use Rattle.lives.specs.Invariant.{Phys, build, Live, GoodIf, Good}
 
 pub record Tied (s : Store) (t : Told) : Type 0 where
@@ -85,4 +85,4 @@ module _ (t : Told) (p : Phys) where
 pub reads-held : (t : Told) (p : Phys) → Good t p → t .live ≡ true → (k o n : ℕ) (q : Page) → page k t ≡ some q → q .start ≤ o → o + n ≤ length (q .content)
     → fetch (t .size) (p .held) o n ≡ some (take n (drop o (q .content)))
 reads-held t p g l k o n q e a b =
-    served (t .size) (p .held) (q .start) (q .content) (gives t p k (t .writer) q (subst (λ (x : Bool). GoodIf x t p) l g) e) n o a b
+    fetch-serves (t .size) (p .held) (q .start) (q .content) (gives t p k (t .writer) q (subst (λ (x : Bool). GoodIf x t p) l g) e) n o a b

@@ -1,7 +1,7 @@
 -- Every call keeps the store and what is told of it together. Assumes nothing.
 use mathlib.Core.Path.{_≡_, refl}
 use Prim.Native.Nat.{ℕ}
-use Rattle.lives.specs.Life.{Call, Answer, Done, Bytes, Refused, restart, reader, append, truncate, open′, put, shift, cut, read, commit, drop′, step}
+use Rattle.lives.specs.Life.{TapeCall, Answer, Done, Bytes, Refused, restart, reader, append, truncate, open′, put, shift, cut, read, commit, drop′, step}
 use Rattle.lives.specs.Told.{Told, told}
 use Rattle.lives.specs.Invariant.{Phys, build, Good, Goes, goes}
 use Rattle.lives.specs.StepsBegin.{step-reader, step-append, step-truncate}
@@ -15,7 +15,7 @@ read-tells t k o n (Done v) = refl
 read-tells t k o n (Bytes l) = refl
 read-tells t k o n (Refused x v) = refl
 
-pub keeps : (c : Call) (t : Told) (p : Phys) → Good t p → Goes t c (step c (build t p))
+pub keeps : (c : TapeCall) (t : Told) (p : Phys) → Good t p → Goes t c (step c (build t p))
 unfolding step
 keeps restart t p g = step-restart t p (t .writer) (t .live) g
 keeps reader t p g = step-reader t p (t .writer) (t .live) g

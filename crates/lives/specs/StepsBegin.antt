@@ -13,7 +13,7 @@ use Rattle.components.specs.Epochs.{older}
 use Rattle.components.specs.EpochsLaws.{none-older}
 use Rattle.lives.specs.Life.{Writer, Done, refuse, then, epochIn, epochs, reader, append, truncate, stepReader, stepAppend, stepTruncate}
 use Rattle.lives.specs.Told.{Window, Staging, idle, appending, cutting, Told, withWriter, withWindows}
-use Rattle.lives.specs.Invariant.{Phys, erase, eraseW, build, now, Page, Good, Goes, refused}
+use Rattle.lives.specs.Invariant.{Phys, erase, eraseW, build, now, PageHeld, Good, Goes, refused, restaged, rested, rewindowed, reslept}
 
 -- a window's epoch is counted
 pub epoch-counted : {w : Window} {ws : List Window} → List·Memᴰ w ws → List·Memᴰ (w .epoch) (epochs (map erase ws))
@@ -34,30 +34,11 @@ module _ (t : Told) (p : Phys) where
   one-more : (n : ℕ) (x : Staging) (b : Bool) → Good (withWriter t x b) p → Good (withWindows (withWriter t x b) (opening n ∷ t .windows)) (with (p .touched) n)
   one-more n x true g =
       let f = g .committed in
-      record {
-        pos = g .pos;
-        sound = g .sound;
-        low = g .low;
-        even = g .even;
-        known = g .known;
-        shown = g .shown;
-        bare = g .bare;
-        bounded = g .bounded;
-        below = g .below;
-        committed = f;
-        pages = λ w i. ⊎-elim (λ e. rw e (record { kept = f .kept; ringed = f .ringed; marks = f .marks; age = f .age; tall = f .tall })) (g .pages w) (List·Memᴰ·cases-cons i);
-        staged = g .staged;
-      }
+      rewindowed t p n (opening n ∷ t .windows) x g
+      (λ w i. ⊎-elim (λ e. rw e (record { kept = f .kept; ringed = f .ringed; marks = f .marks; age = f .age; tall = f .tall })) (g .pages w) (List·Memᴰ·cases-cons i))
   one-more n x false g =
-      record {
-        pos = g .pos;
-        bare = g .bare;
-        bounded = g .bounded;
-        untouched = g .untouched;
-        kept = g .kept;
-        pages = λ w i. ⊎-elim (λ e. rw e (record { age = omega arith; short = omega arith; part = λ o a b. (a, refl) })) (g .pages w) (List·Memᴰ·cases-cons i);
-        staged = g .staged;
-      }
+      reslept t p n (opening n ∷ t .windows) x g
+      (λ w i. ⊎-elim (λ e. rw e (record { age = omega arith; short = omega arith; part = λ o a b. (a, refl) })) (g .pages w) (List·Memᴰ·cases-cons i))
 
   pub step-reader : (x : Staging) (b : Bool) → Good (withWriter t x b) p → Goes (withWriter t x b) reader (stepReader (build (withWriter t x b) p))
   step-reader x b g = record { phys = with (p .touched) (p .last + 1); same = refl; good = one-more (p .last + 1) x b g }
@@ -69,7 +50,7 @@ module _ (t : Told) (p : Phys) where
       let n = older (t .epoch) (epochs (map erase (t .windows))) in
       let f = g .committed in
       let q = g .even refl in
-      let begun : (w : Window) → Page (t .size) (p .held) (t .epoch) (t .cut) (t .content) false w → (w .epoch < t .epoch → 0 < n) → Page (t .size) (p .held) (t .epoch) (t .cut) (t .content) true w =
+      let begun : (w : Window) → PageHeld (t .size) (p .held) (t .epoch) (t .cut) (t .content) false w → (w .epoch < t .epoch → 0 < n) → PageHeld (t .size) (p .held) (t .epoch) (t .cut) (t .content) true w =
       λ w f q.
       record {
         kept = f .kept;
@@ -101,27 +82,11 @@ module _ (t : Told) (p : Phys) where
               ringed = f .ringed;
             };
       }
-  begin-append false g e =
-      record { pos = g .pos; bare = g .bare; bounded = g .bounded; untouched = refl; kept = g .kept; pages = g .pages; staged = (refl, refl, refl) }
+  begin-append false g e = rested t p (p .last + 1) false idle (appending (p .last + 1) (t .listed) (t .content) (t .start)) g refl (refl, refl, refl)
 
   begin-cut : (b : Bool) → Good (withWriter t idle b) p → Good (withWriter t (cutting (p .last + 1) (t .content)) b) (with false (p .last + 1))
-  begin-cut true g =
-      record {
-        pos = g .pos;
-        sound = g .sound;
-        low = g .low;
-        even = g .even;
-        known = g .known;
-        shown = g .shown;
-        bare = g .bare;
-        bounded = g .bounded;
-        below = g .below;
-        committed = g .committed;
-        pages = g .pages;
-        staged = record { whole = λ _. refl; shorter = omega arith; same = λ o _. refl };
-      }
-  begin-cut false g =
-      record { pos = g .pos; bare = g .bare; bounded = g .bounded; untouched = refl; kept = g .kept; pages = g .pages; staged = refl }
+  begin-cut true g = restaged t p (p .last + 1) false idle (cutting (p .last + 1) (t .content)) refl refl g (record { whole = λ _. refl; shorter = omega arith; same = λ o _. refl })
+  begin-cut false g = rested t p (p .last + 1) false idle (cutting (p .last + 1) (t .content)) g refl refl
 
   pub step-append : (x : Staging) (b : Bool) → Good (withWriter t x b) p → Goes (withWriter t x b) append (stepAppend (build (withWriter t x b) p) (eraseW (t .epoch) x))
   step-append (appending m h c s) b g = refused (withWriter t (appending m h c s) b) p append 3 0 g

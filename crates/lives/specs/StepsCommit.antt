@@ -20,7 +20,7 @@ use Rattle.held.specs.SettleLaws.{settled-kept, settled-mark, settled-sound}
 use Rattle.held.specs.TrimLaws.{trim-held}
 use Rattle.lives.specs.Life.{Writer, After, refuse, committed, epochs, commit, stepCommit}
 use Rattle.lives.specs.Told.{Window, Staging, idle, appending, cutting, Told, withWriter, published}
-use Rattle.lives.specs.Invariant.{Phys, erase, eraseW, build, now, Page, Live, Dormant, Good, Goes, refused, goes, no-taller}
+use Rattle.lives.specs.Invariant.{Phys, erase, eraseW, build, now, PageHeld, Live, Dormant, Good, Goes, refused, goes, no-taller}
 use Rattle.lives.specs.StepsBegin.{epoch-counted}
 
 -- a file below those of both offsets is below that of the smaller
@@ -151,7 +151,7 @@ module _ (t : Told) (p : Phys) where
       picked (Goes u (commit k)) (eqb k m) X (refuse 2 0 (build u p))
       (λ e.
       let tr = trim-held fs (p .held) (length (t .content)) (length c) (p .touched) (rw (g .even refl) at (g .sound)) (G .shorter) (G .whole) in
-      let fine : (w : Window) → Page fs (p .held) (t .epoch) (t .cut) (t .content) false w → Page fs h′ (t .epoch + 1) true c false w =
+      let fine : (w : Window) → PageHeld fs (p .held) (t .epoch) (t .cut) (t .content) false w → PageHeld fs h′ (t .epoch + 1) true c false w =
       λ w f.
       record {
         kept = tr .kept (w .start) (length (w .content)) (w .content) (f .kept);

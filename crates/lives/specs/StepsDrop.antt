@@ -14,7 +14,7 @@ use Rattle.held.specs.Page.{Sound}
 use Rattle.held.specs.TakeBackLaws.{back-sound, back-ringed}
 use Rattle.lives.specs.Life.{Reader, Writer, Done, refuse, then, find, without, isSome, asleep, drop′, stepDrop, stepDropReader}
 use Rattle.lives.specs.Told.{Window, Staging, idle, appending, cutting, Told, told, closed, withWriter, withWindows}
-use Rattle.lives.specs.Invariant.{Phys, erase, eraseW, build, now, Page, Live, Good, Goes, refused, goes, no-taller}
+use Rattle.lives.specs.Invariant.{Phys, erase, eraseW, build, now, PageHeld, Live, Good, Goes, refused, goes, no-taller, restaged, rested, rewindowed, reslept}
 
 closed-readers : (k : ℕ) (ws : List Window) → without k (map erase ws) ≡ map erase (closed k ws)
 unfolding without closed
@@ -37,31 +37,8 @@ module _ (t : Told) (p : Phys) where
   -- ---- a reader
 
   closed-good : (k : ℕ) (x : Staging) (b : Bool) → Good (withWriter t x b) p → Good (withWindows (withWriter t x b) (closed k (t .windows))) p
-  closed-good k x true g =
-      record {
-        pos = g .pos;
-        sound = g .sound;
-        low = g .low;
-        even = g .even;
-        known = g .known;
-        shown = g .shown;
-        bare = g .bare;
-        bounded = g .bounded;
-        below = g .below;
-        committed = g .committed;
-        pages = λ w i. g .pages w (closed-mem k (t .windows) i);
-        staged = g .staged;
-      }
-  closed-good k x false g =
-      record {
-        pos = g .pos;
-        bare = g .bare;
-        bounded = g .bounded;
-        untouched = g .untouched;
-        kept = g .kept;
-        pages = λ w i. g .pages w (closed-mem k (t .windows) i);
-        staged = g .staged;
-      }
+  closed-good k x true g = rewindowed t p (p .last) (closed k (t .windows)) x g (λ w i. g .pages w (closed-mem k (t .windows) i))
+  closed-good k x false g = reslept t p (p .last) (closed k (t .windows)) x g (λ w i. g .pages w (closed-mem k (t .windows) i))
 
   drop-reader : (k : ℕ) (x : Staging) (b : Bool) → Good (withWriter t x b) p → told (withWriter t x b) (drop′ k) (Done 0) ≡ withWindows (withWriter t x b) (closed k (t .windows))
       → Goes (withWriter t x b) (drop′ k) (stepDropReader (build (withWriter t x b) p) k)
@@ -84,7 +61,7 @@ module _ (t : Told) (p : Phys) where
     -- of a known tape: it stays open
     record Left (h′ : Held) : Type 0 where
       sound : Sound h′ (length (t .content)) (length (t .content))
-      fine : (w : Window) → Page (t .size) (p .held) (t .epoch) (t .cut) (t .content) true w → Page (t .size) h′ (t .epoch) (t .cut) (t .content) false w
+      fine : (w : Window) → PageHeld (t .size) (p .held) (t .epoch) (t .cut) (t .content) true w → PageHeld (t .size) h′ (t .epoch) (t .cut) (t .content) false w
       below : (k e : ℕ) → h′ .files k .mark ≡ some e → p .held .files k .mark ≡ some e
 
     drop-known : Live (withWriter t (appending m h c s) true) p → t .listed ≡ true → (h′ : Held) → Left h′ → Live (withWriter t idle true) (dropped (length (t .content)) h′)
@@ -164,36 +141,17 @@ module _ (t : Told) (p : Phys) where
       let u = withWriter t (appending m h c s) false in
       let X = then (Done 0) (p .last) (build u p) (map erase (t .windows)) Writer.idle false false (left m h c s) in
       picked (Goes u (drop′ k)) (eqb k m) X (stepDropReader (build u p) k)
-      (λ e.
-      goes u (drop′ k) X (withWriter t idle false) (dropped (p .base) (p .held)) (rw e) (rw (g .untouched))
-      (record { pos = g .pos; bare = g .bare; bounded = g .bounded; untouched = refl; kept = g .kept; pages = g .pages; staged = tt }))
+      (λ e. goes u (drop′ k) X (withWriter t idle false) (dropped (p .base) (p .held)) (rw e) (rw (g .untouched)) (rested t p (p .last) false (appending m h c s) idle g refl tt))
       (λ e. drop-reader k (appending m h c s) false g (rw e))
   step-drop k (cutting m c) true g =
       let u = withWriter t (cutting m c) true in
       let X = then (Done 0) (p .last) (build u p) (map erase (t .windows)) Writer.idle false true (p .held) in
       picked (Goes u (drop′ k)) (eqb k m) X (stepDropReader (build u p) k)
-      (λ e.
-      goes u (drop′ k) X (withWriter t idle true) (dropped (p .base) (p .held)) (rw e) refl
-      (record {
-        pos = g .pos;
-        sound = g .sound;
-        low = g .low;
-        even = g .even;
-        known = g .known;
-        shown = g .shown;
-        bare = g .bare;
-        bounded = g .bounded;
-        below = g .below;
-        committed = g .committed;
-        pages = g .pages;
-        staged = tt;
-      }))
+      (λ e. goes u (drop′ k) X (withWriter t idle true) (dropped (p .base) (p .held)) (rw e) refl (restaged t p (p .last) false (cutting m c) idle refl refl g tt))
       (λ e. drop-reader k (cutting m c) true g (rw e))
   step-drop k (cutting m c) false g =
       let u = withWriter t (cutting m c) false in
       let X = then (Done 0) (p .last) (build u p) (map erase (t .windows)) Writer.idle false false (p .held) in
       picked (Goes u (drop′ k)) (eqb k m) X (stepDropReader (build u p) k)
-      (λ e.
-      goes u (drop′ k) X (withWriter t idle false) (dropped (p .base) (p .held)) (rw e) refl
-      (record { pos = g .pos; bare = g .bare; bounded = g .bounded; untouched = refl; kept = g .kept; pages = g .pages; staged = tt }))
+      (λ e. goes u (drop′ k) X (withWriter t idle false) (dropped (p .base) (p .held)) (rw e) refl (rested t p (p .last) false (cutting m c) idle g refl tt))
       (λ e. drop-reader k (cutting m c) false g (rw e))

@@ -15,8 +15,8 @@ use Rattle.held.specs.Held.{Held, taken, load, filled}
 use Rattle.held.specs.Page.{Kept, Ringed}
 use Rattle.held.specs.OpenLaws.{track-forget, track-kept, taken-kept, taken-mark, load-kept, fill-ringed, fill-sound, made-sound}
 use Rattle.lives.specs.Life.{Writer, Done, refuse, then, asleep, capacityFits, openKnown, openNew, restart, open′, stepRestart, stepOpen}
-use Rattle.lives.specs.Told.{Staging, idle, appending, cutting, Told, withWriter}
-use Rattle.lives.specs.Invariant.{Phys, erase, eraseW, build, Live, Dormant, Good, Goes, refused, goes}
+use Rattle.lives.specs.Told.{Staging, idle, appending, cutting, Told, withWriter, withOpen}
+use Rattle.lives.specs.Invariant.{Phys, erase, eraseW, build, Live, Dormant, Good, Goes, refused, goes, rested}
 
 -- what the test of a cache says
 record Fits (c : ℕ) (memory : List ℕ) (size : ℕ) : Type 0 where
@@ -86,18 +86,7 @@ module _ (t : Told) (p : Phys) where
 
   -- a tape made new, of a file size
   abbrev made : (m size st : ℕ) → Told
-  made m size st =
-      record {
-        epoch = t .epoch;
-        cut = t .cut;
-        listed = t .listed;
-        content = t .content;
-        start = t .start;
-        windows = t .windows;
-        writer = appending m true (replicate st 0) st;
-        live = true;
-        size = size;
-      }
+  made m size st = withOpen t (appending m true (replicate st 0) st) size
 
   made-live : (m size c st : ℕ) (memory : List ℕ) → Dormant (resting m) p → t .listed ≡ false → Fits c memory size → Live (made m size st) (opened st (filled c st memory [] noFiles))
   unfolding filled
@@ -242,5 +231,4 @@ module _ (t : Told) (p : Phys) where
   step-open k size c st memory (appending m h d s) false g =
       let (a, b, e) = g .staged in
       rw (a, b, e)
-      (open-resting k size c st memory m
-      (record { pos = g .pos; bare = g .bare; bounded = g .bounded; untouched = g .untouched; kept = g .kept; pages = g .pages; staged = (refl, refl, refl) }))
+      (open-resting k size c st memory m (rested t p (p .last) (p .touched) (appending m h d s) (appending m (t .listed) (t .content) (t .start)) g (g .untouched) (refl, refl, refl)))

@@ -13,7 +13,7 @@ use Rattle.held.specs.Held.{putHeld}
 use Rattle.held.specs.PutLaws.{put-held}
 use Rattle.lives.specs.Life.{Writer, Done, refuse, then, put, shift, cut, stepPut, stepShift, stepCut}
 use Rattle.lives.specs.Told.{Window, Staging, idle, appending, cutting, Told, withWriter}
-use Rattle.lives.specs.Invariant.{Phys, erase, eraseW, build, now, Page, Live, Good, Goes, refused, goes, no-taller}
+use Rattle.lives.specs.Invariant.{Phys, erase, eraseW, build, now, PageHeld, Live, Good, Goes, refused, goes, no-taller, restaged}
 
 module _ (t : Told) (p : Phys) where
   -- ---- put: the tape is open, or the call is refused
@@ -23,7 +23,7 @@ module _ (t : Told) (p : Phys) where
   put-live m h c s d l g =
       let u = put-held (t .size) (g .pos) (p .held) (p .base) (length c) d (g .sound) (omega arith) in
       let G = g .staged in
-      let fine : (w : Window) → Page (t .size) (p .held) (t .epoch) (t .cut) (t .content) true w → Page (t .size) (putHeld (t .size) (length c) (p .held) d) (t .epoch) (t .cut) (t .content) true w =
+      let fine : (w : Window) → PageHeld (t .size) (p .held) (t .epoch) (t .cut) (t .content) true w → PageHeld (t .size) (putHeld (t .size) (length c) (p .held) d) (t .epoch) (t .cut) (t .content) true w =
       λ w f.
       record {
         kept = u .oldK (w .start) (length (w .content)) (w .content) (omega (arith, no-taller f, g .low)) (f .kept);
@@ -100,29 +100,16 @@ module _ (t : Told) (p : Phys) where
       picked (Goes u (shift k n)) (leb n (length c)) X far
       (λ l.
       goes u (shift k n) X (withWriter t (appending m h c (max s n)) true) staging (rw (and-l (eqb k m) true e)) refl
+      (restaged t p (p .last) true (appending m h c s) (appending m h c (max s n)) refl refl g
       (record {
-        pos = g .pos;
-        sound = g .sound;
-        low = g .low;
-        even = g .even;
-        known = g .known;
-        shown = g .shown;
-        bare = g .bare;
-        bounded = g .bounded;
-        below = g .below;
-        committed = g .committed;
-        pages = g .pages;
-        staged =
-            record {
-              present = G .present;
-              whole = λ z. absurd (true≢false z);
-              longer = G .longer;
-              later = omega (arith, G .later);
-              within = omega (arith, G .within, leb-true n (length c) l);
-              kept = λ o a b. G .kept o (omega arith) b;
-              ringed = λ o a b. G .ringed o (omega arith) b;
-            };
-      }))
+        present = G .present;
+        whole = λ z. absurd (true≢false z);
+        longer = G .longer;
+        later = omega (arith, G .later);
+        within = omega (arith, G .within, leb-true n (length c) l);
+        kept = λ o a b. G .kept o (omega arith) b;
+        ringed = λ o a b. G .ringed o (omega arith) b;
+      })))
       (λ _. refused u p (shift k n) 13 0 g))
       (λ _. refused u p (shift k n) 2 0 g)
 
@@ -147,25 +134,12 @@ module _ (t : Told) (p : Phys) where
       (λ l.
       let q : length (take n c) ≡ n = length-take n c ∙ omega (arith, leb-true n (length c) l) in
       goes u (cut k n) X (withWriter t (cutting m (take n c)) true) staging (rw (and-l (eqb k m) true e)) (rw q)
+      (restaged t p (p .last) true (cutting m c) (cutting m (take n c)) refl refl g
       (record {
-        pos = g .pos;
-        sound = g .sound;
-        low = g .low;
-        even = g .even;
-        known = g .known;
-        shown = g .shown;
-        bare = g .bare;
-        bounded = g .bounded;
-        below = g .below;
-        committed = g .committed;
-        pages = g .pages;
-        staged =
-            record {
-              whole = λ z. absurd (true≢false z);
-              shorter = omega (arith, G .shorter, leb-true n (length c) l);
-              same = λ o b. getD-take n c o 0 (omega arith) ∙ G .same o (omega (arith, leb-true n (length c) l));
-            };
-      }))
+        whole = λ z. absurd (true≢false z);
+        shorter = omega (arith, G .shorter, leb-true n (length c) l);
+        same = λ o b. getD-take n c o 0 (omega arith) ∙ G .same o (omega (arith, leb-true n (length c) l));
+      })))
       (λ _. refused u p (cut k n) 14 0 g))
       (λ _. refused u p (cut k n) 11 0 g))
       (λ _. refused u p (cut k n) 2 0 g)

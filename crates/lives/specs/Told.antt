@@ -6,7 +6,7 @@ use mathlib.Core.List.{List, [], _∷_, _++_}
 use Prim.Native.Nat.{ℕ, _+_, min, max}
 use lib.ListN.{length, take, replicate}
 use lib.Dec.{eqb, ltb}
-use Rattle.lives.specs.Life.{Answer, Done, Bytes, Refused, Call, restart, reader, append, truncate, open′, put, shift, cut, read, commit, drop′}
+use Rattle.lives.specs.Life.{Answer, Done, Bytes, Refused, TapeCall, restart, reader, append, truncate, open′, put, shift, cut, read, commit, drop′}
 
 -- a page: here or absent (then empty); its bytes from offset 0 to its length, of which those from start on may be read. Below the start of a tape that was
 -- made at one stand zeros, which nobody can read: a start only falls to the length
@@ -46,6 +46,11 @@ withWriter t w b =
 abbrev pub withWindows : Told → List Window → Told
 withWindows t ws =
     record { epoch = t .epoch; cut = t .cut; listed = t .listed; content = t .content; start = t .start; windows = ws; writer = t .writer; live = t .live; size = t .size }
+
+-- open, of a file size
+abbrev pub withOpen : Told → Staging → ℕ → Told
+withOpen t w size =
+    record { epoch = t .epoch; cut = t .cut; listed = t .listed; content = t .content; start = t .start; windows = t .windows; writer = w; live = true; size = size }
 
 abbrev pub published : Told → Bool → Bool → List ℕ → ℕ → Told
 published t b li c s =
@@ -89,33 +94,22 @@ toldDrop k t idle = withWindows t (closed k (t .windows))
 toldDrop k t (appending m h c s) = cond (eqb k m) (withWriter t idle (t .live && t .listed)) (withWindows t (closed k (t .windows)))
 toldDrop k t (cutting m c) = cond (eqb k m) (withWriter t idle (t .live)) (withWindows t (closed k (t .windows)))
 
-abbrev pub served : Told → Call → ℕ → Told
-served t restart n =
+abbrev pub toldDone : Told → TapeCall → ℕ → Told
+toldDone t restart n =
     record { epoch = t .epoch; cut = false; listed = t .listed; content = t .content; start = t .start; windows = []; writer = idle; live = false; size = t .size }
-served t reader n = withWindows t (record { number = n; epoch = t .epoch; here = t .listed; start = t .start; content = t .content } ∷ t .windows)
-served t append n = withWriter t (appending n (t .listed) (t .content) (t .start)) (t .live)
-served t truncate n = withWriter t (cutting n (t .content)) (t .live)
-served t (open′ k size c st memory) n =
-    record {
-      epoch = t .epoch;
-      cut = t .cut;
-      listed = t .listed;
-      content = t .content;
-      start = t .start;
-      windows = t .windows;
-      writer = toldOpen k st (t .writer);
-      live = true;
-      size = cond (isHere k (t .writer)) (t .size) size;
-    }
-served t (put k d) n = withWriter t (toldPut k d (t .writer)) (t .live)
-served t (shift k i) n = withWriter t (toldShift k i (t .writer)) (t .live)
-served t (cut k i) n = withWriter t (toldCut k i (t .writer)) (t .live)
-served t (read k o i) n = t
-served t (commit k) n = toldCommit k t (t .writer)
-served t (drop′ k) n = toldDrop k t (t .writer)
+toldDone t reader n = withWindows t (record { number = n; epoch = t .epoch; here = t .listed; start = t .start; content = t .content } ∷ t .windows)
+toldDone t append n = withWriter t (appending n (t .listed) (t .content) (t .start)) (t .live)
+toldDone t truncate n = withWriter t (cutting n (t .content)) (t .live)
+toldDone t (open′ k size c st memory) n = withOpen t (toldOpen k st (t .writer)) (cond (isHere k (t .writer)) (t .size) size)
+toldDone t (put k d) n = withWriter t (toldPut k d (t .writer)) (t .live)
+toldDone t (shift k i) n = withWriter t (toldShift k i (t .writer)) (t .live)
+toldDone t (cut k i) n = withWriter t (toldCut k i (t .writer)) (t .live)
+toldDone t (read k o i) n = t
+toldDone t (commit k) n = toldCommit k t (t .writer)
+toldDone t (drop′ k) n = toldDrop k t (t .writer)
 
-abbrev pub told : Told → Call → Answer → Told
-told t c (Done n) = served t c n
+abbrev pub told : Told → TapeCall → Answer → Told
+told t c (Done n) = toldDone t c n
 told t c (Bytes l) = t
 told t c (Refused x v) = t
 
@@ -146,7 +140,7 @@ before e [] = []
 before e (w ∷ ws) = cond (ltb (w .epoch) e) (w ∷ before e ws) (before e ws)
 
 -- neither a commit nor the session's end was served
-abbrev pub quiet : Call → Answer → Bool
+abbrev pub quiet : TapeCall → Answer → Bool
 quiet c (Refused x v) = true
 quiet c (Bytes l) = true
 quiet restart (Done n) = false

@@ -10,7 +10,7 @@ use lib.Dec.{eqb, ltb}
 use lib.ListN.{length}
 use Rattle.octets.specs.Cases.{picked, and-l, and-r}
 use Rattle.components.specs.Epochs.{older}
-use Rattle.lives.specs.Life.{Writer, Store, Call, Answer, After, Done, Bytes, Refused, restart, reader, append, truncate, open′, put, shift, cut, read, commit, drop′, epochs, refuse, then, stepAppend, step}
+use Rattle.lives.specs.Life.{Writer, Store, TapeCall, Answer, After, Done, Bytes, Refused, restart, reader, append, truncate, open′, put, shift, cut, read, commit, drop′, epochs, refuse, then, stepAppend, step}
 use Rattle.lives.specs.Told.{Window, Staging, idle, appending, cutting, Told, withWriter, told, before, quiet, toldDrop}
 use Rattle.lives.specs.Invariant.{Phys, erase, eraseW, build}
 use Rattle.lives.specs.StepsDrop.{closed-mem}
@@ -18,39 +18,39 @@ use Rattle.lives.specs.Reads.{Tied}
 
 -- ---- without a commit the epoch stands, and a window that is new is of this epoch
 
-pub record Stands (t t′ : Told) : Type 0 where
+pub record Unmoved (t t′ : Told) : Type 0 where
   pub epoch : t′ .epoch ≡ t .epoch
   pub cut : t′ .cut ≡ t .cut
   pub windows : (w : Window) → List·Memᴰ w (t′ .windows) → List·Memᴰ w (t .windows) ⊎ (w .epoch ≡ t .epoch)
 
-still : (t : Told) → Stands t t
+still : (t : Told) → Unmoved t t
 still t = record { epoch = refl; cut = refl; windows = λ w i. inl i }
 
-stands-drop : (k : ℕ) (t : Told) (x : Staging) → Stands t (toldDrop k t x)
-stands-drop k t idle = record { epoch = refl; cut = refl; windows = λ w i. inl (closed-mem k (t .windows) i) }
-stands-drop k t (appending m h c s) =
-    picked (Stands t) (eqb k m) _ _
+unmoved-drop : (k : ℕ) (t : Told) (x : Staging) → Unmoved t (toldDrop k t x)
+unmoved-drop k t idle = record { epoch = refl; cut = refl; windows = λ w i. inl (closed-mem k (t .windows) i) }
+unmoved-drop k t (appending m h c s) =
+    picked (Unmoved t) (eqb k m) _ _
     (λ _. record { epoch = refl; cut = refl; windows = λ w i. inl i })
     (λ _. record { epoch = refl; cut = refl; windows = λ w i. inl (closed-mem k (t .windows) i) })
-stands-drop k t (cutting m c) =
-    picked (Stands t) (eqb k m) _ _
+unmoved-drop k t (cutting m c) =
+    picked (Unmoved t) (eqb k m) _ _
     (λ _. record { epoch = refl; cut = refl; windows = λ w i. inl i })
     (λ _. record { epoch = refl; cut = refl; windows = λ w i. inl (closed-mem k (t .windows) i) })
 
-pub stands : (t : Told) (c : Call) (a : Answer) → quiet c a ≡ true → Stands t (told t c a)
-stands t c (Refused x v) q = still t
-stands t c (Bytes l) q = still t
-stands t reader (Done n) q = record { epoch = refl; cut = refl; windows = λ w i. ⊎-elim (λ e. inr (ap (λ (x : Window). x .epoch) e)) inl (List·Memᴰ·cases-cons i) }
-stands t restart (Done n) q = absurd (false≢true q)
-stands t (open′ k size c st memory) (Done n) q = record { epoch = refl; cut = refl; windows = λ w i. inl i }
-stands t append (Done n) q = record { epoch = refl; cut = refl; windows = λ w i. inl i }
-stands t truncate (Done n) q = record { epoch = refl; cut = refl; windows = λ w i. inl i }
-stands t (put k d) (Done n) q = record { epoch = refl; cut = refl; windows = λ w i. inl i }
-stands t (shift k j) (Done n) q = record { epoch = refl; cut = refl; windows = λ w i. inl i }
-stands t (cut k j) (Done n) q = record { epoch = refl; cut = refl; windows = λ w i. inl i }
-stands t (read k o j) (Done n) q = still t
-stands t (commit k) (Done n) q = absurd (false≢true q)
-stands t (drop′ k) (Done n) q = stands-drop k t (t .writer)
+pub unmoved : (t : Told) (c : TapeCall) (a : Answer) → quiet c a ≡ true → Unmoved t (told t c a)
+unmoved t c (Refused x v) q = still t
+unmoved t c (Bytes l) q = still t
+unmoved t reader (Done n) q = record { epoch = refl; cut = refl; windows = λ w i. ⊎-elim (λ e. inr (ap (λ (x : Window). x .epoch) e)) inl (List·Memᴰ·cases-cons i) }
+unmoved t restart (Done n) q = absurd (false≢true q)
+unmoved t (open′ k size c st memory) (Done n) q = record { epoch = refl; cut = refl; windows = λ w i. inl i }
+unmoved t append (Done n) q = record { epoch = refl; cut = refl; windows = λ w i. inl i }
+unmoved t truncate (Done n) q = record { epoch = refl; cut = refl; windows = λ w i. inl i }
+unmoved t (put k d) (Done n) q = record { epoch = refl; cut = refl; windows = λ w i. inl i }
+unmoved t (shift k j) (Done n) q = record { epoch = refl; cut = refl; windows = λ w i. inl i }
+unmoved t (cut k j) (Done n) q = record { epoch = refl; cut = refl; windows = λ w i. inl i }
+unmoved t (read k o j) (Done n) q = still t
+unmoved t (commit k) (Done n) q = absurd (false≢true q)
+unmoved t (drop′ k) (Done n) q = unmoved-drop k t (t .writer)
 
 older-before : (e : ℕ) (ws : List Window) → older e (epochs (map erase ws)) ≡ length (before e ws)
 unfolding older before

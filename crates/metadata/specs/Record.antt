@@ -1,7 +1,7 @@
 -- Document 01, "The record": version u32 = 1, hash of 32 bytes, epoch u64, the tape list as u32 length and bytes. Assumes nothing.
 use mathlib.Core.Bool.{cond}
 use mathlib.Core.List.{List, [], _∷_, _++_}
-use Prim.Native.Nat.{ℕ, _+_}
+use Prim.Native.Nat.{ℕ}
 use lib.ListN.{take, drop}
 use Rattle.octets.specs.Compare.{sameBytes}
 use Rattle.blake2b.specs.Blake2b.{blake2b}

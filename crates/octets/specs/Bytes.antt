@@ -8,7 +8,7 @@ use native.Mathlib.Nat.{add-assoc, add-zero, zero-add}
 use native.Mathlib.Numerals.{add-one}
 use native.Mathlib.Omega.{arith}
 use lib.ListN.{length, getD, set, take, drop, replicate, length-set, length-drop, take-append-drop, drop-of-length-le}
-use lib.Seq.{getD-set-same, getD-set-other, drop-cons, append-snoc, take-append-seam, take-add, drop-at, length-take-le, take-suc-set, take-set-le, take-set-lt, drop-set-lt, drop-set-add, drop-drop}
+use lib.Seq.{getD-set-same, getD-set-other, drop-cons, append-snoc, take-append-seam, take-add, drop-at, length-take-le, take-suc-set, take-set-le, take-set-lt, drop-set-lt, drop-set-add, drop-drop, set-set, set-comm}
 
 -- s, with bs in the place of what stands from at on
 unfoldable pub put : List ℕ → ℕ → List ℕ → List ℕ
@@ -110,6 +110,35 @@ pub drop-put-above : (n : ℕ) (s : List ℕ) (at : ℕ) (bs : List ℕ) → at 
 unfolding put
 drop-put-above n s at [] h = refl
 drop-put-above n s at (b ∷ bs) h = drop-put-above n (set s at b) (at + 1) bs (omega arith) ∙ drop-set-lt n s at b (omega arith)
+
+-- ---- two puts into an area
+
+set-put : (s : List ℕ) (i v at : ℕ) (bs : List ℕ) → (at ≤ i → at + length bs ≤ i) → put (set s i v) at bs ≡ set (put s at bs) i v
+unfolding put
+set-put s i v at [] h = refl
+set-put s i v at (b ∷ bs) h =
+    let e : i ≢ at = λ q. omega (arith, h (omega arith)) in
+    ap (λ (l : List ℕ). put l (at + 1) bs) (set-comm s i at v b e)
+    ∙ set-put (set s at b) i v (at + 1) bs (λ l. omega (arith, h (omega arith)))
+
+-- apart from each other, they may change places
+pub put-swap : (s : List ℕ) (a : ℕ) (xs : List ℕ) (b : ℕ) (ys : List ℕ) → a + length xs ≤ b → put (put s a xs) b ys ≡ put (put s b ys) a xs
+unfolding put
+put-swap s a [] b ys h = refl
+put-swap s a (x ∷ xs) b ys h =
+    put-swap (set s a x) (a + 1) xs b ys (omega arith)
+    ∙ ap (λ (l : List ℕ). put l (a + 1) xs) (set-put s a x b ys (λ q. absurd (omega arith)))
+
+-- at the same place, the later one stands
+pub put-over : (s : List ℕ) (at : ℕ) (xs ys : List ℕ) → length xs ≡ length ys → put (put s at xs) at ys ≡ put s at ys
+unfolding put
+put-over s at [] [] e = refl
+put-over s at [] (y ∷ ys) e = absurd (omega arith)
+put-over s at (x ∷ xs) [] e = absurd (omega arith)
+put-over s at (x ∷ xs) (y ∷ ys) e =
+    ap (λ (l : List ℕ). put l (at + 1) ys)
+    (sym (set-put (set s at x) at y (at + 1) xs (λ q. absurd (omega arith))) ∙ ap (λ (l : List ℕ). put l (at + 1) xs) (set-set s at x y))
+    ∙ put-over (set s at y) (at + 1) xs ys (omega arith)
 
 -- ---- the turns of the loops that copy and fill
 

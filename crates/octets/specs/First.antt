@@ -160,6 +160,17 @@ pub all-fails : (p : ℕ → Bool) (k i j : ℕ) → i ≤ j → j < i + k → p
 all-fails p k i j l h f =
     decide (all p k i) (λ (t : all p k i ≡ true). let q = all-holds p k i t j l h in cc) (λ q. q)
 
+-- m places, and then those behind them
+pub all-split : (p : ℕ → Bool) (m k i : ℕ) → all p (m + k) i ≡ (all p m i && all p k (i + m))
+unfolding all
+all-split p zero k i = rw (zero-add, add-zero)
+all-split p (suc m) k i =
+    let e : suc m + k ≡ suc (m + k) = omega arith in
+    let f : i + suc m ≡ i + 1 + m = omega arith in
+    decide (p i)
+    (λ (t : p i ≡ true). rw (e, f, t) (all-split p m k (i + 1)))
+    (λ (n : p i ≡ false). rw (e, n))
+
 -- m places at which it holds are passed at once
 pub all-skip : (p : ℕ → Bool) (m k i : ℕ) → ((j : ℕ) → i ≤ j → j < i + m → p j ≡ true) → all p (m + k) i ≡ all p k (i + m)
 unfolding all
@@ -168,6 +179,15 @@ all-skip p (suc m) k i h =
     let e : suc m + k ≡ suc (m + k) = omega arith in
     let f : i + suc m ≡ i + 1 + m = omega arith in
     rw (e, f, h i (omega arith) (omega arith)) (all-skip p m k (i + 1) (λ j a b. h j (omega arith) (omega arith)))
+
+-- m places at which it fails are passed at once
+pub first-skip : (p : ℕ → Bool) (m k i : ℕ) → ((j : ℕ) → i ≤ j → j < i + m → p j ≡ false) → first p (m + k) i ≡ first p k (i + m)
+unfolding first
+first-skip p zero k i h = rw (zero-add, add-zero)
+first-skip p (suc m) k i h =
+    let e : suc m + k ≡ suc (m + k) = omega arith in
+    let f : i + suc m ≡ i + 1 + m = omega arith in
+    rw (e, f, h i (omega arith) (omega arith)) (first-skip p m k (i + 1) (λ j a b. h j (omega arith) (omega arith)))
 
 -- tests that agree on the run count the same
 pub count-same : (p q : ℕ → Bool) (k i : ℕ) → ((j : ℕ) → i ≤ j → j < i + k → p j ≡ q j) → count p k i ≡ count q k i
@@ -198,3 +218,29 @@ count-more p q (suc k) i j low high f t h =
     (λ (d : i ≢ j).
     rw (h i (omega arith) (omega arith) d, count-more p q k (i + 1) j (omega arith) (omega arith) f t (λ m a b c. h m (omega arith) (omega arith) c))
     (omega arith))
+
+-- a test that holds at no place more counts no more; at one place fewer, fewer
+module _ (p q : ℕ → Bool) where
+  pub count-within : (k i : ℕ) → ((j : ℕ) → i ≤ j → j < i + k → q j ≡ true → p j ≡ true) → count q k i ≤ count p k i
+  unfolding count
+  count-within zero i h = omega arith
+  count-within (suc k) i h =
+      let rest = count-within k (i + 1) (λ j l m. h j (omega arith) (omega arith)) in
+      decide (q i)
+      (λ (t : q i ≡ true). rw (t, h i (omega arith) (omega arith) t) (omega arith))
+      (λ (f : q i ≡ false). rw f (omega arith))
+
+  pub count-fewer : (k i m : ℕ) → i ≤ m → m < i + k → p m ≡ true → q m ≡ false → ((j : ℕ) → i ≤ j → j < i + k → q j ≡ true → p j ≡ true)
+      → count q k i < count p k i
+  unfolding count
+  count-fewer zero i m low high t f h = absurd (omega arith)
+  count-fewer (suc k) i m low high t f h =
+      equal i m
+      (λ (e : i ≡ m).
+      let rest = count-within k (m + 1) (λ j l n. h j (omega arith) (omega arith)) in
+      rw (e, t, f) (omega arith))
+      (λ (d : i ≢ m).
+      let rest = count-fewer k (i + 1) m (omega arith) (omega arith) t f (λ j l n. h j (omega arith) (omega arith)) in
+      decide (q i)
+      (λ (u : q i ≡ true). rw (u, h i (omega arith) (omega arith) u) (omega arith))
+      (λ (u : q i ≡ false). rw u (omega arith)))

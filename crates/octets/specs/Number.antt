@@ -8,7 +8,7 @@ use native.Mathlib.Omega.{arith}
 use lib.Arith.{mod-mul}
 use lib.ListN.{length, getD, set, take, drop, replicate, length-set, length-append, length-replicate}
 use lib.Seq.{getD-set-same, getD-take, getD-drop, drop-cons, take-at}
-use Rattle.octets.specs.Bytes.{put, length-part, length-put, getD-put-other, getD-put-in}
+use Rattle.octets.specs.Bytes.{put, length-part, length-put, getD-put-other, getD-put-in, put-swap, put-over}
 
 -- v in k bytes
 unfoldable pub le : ℕ → ℕ → List ℕ
@@ -136,6 +136,13 @@ numAt-putNum-other j k s at v b h = numAt-put-other j s at (le k v) b (λ l. rw 
 pub getD-putNum-other : (k : ℕ) (s : List ℕ) (at v i d : ℕ) → (at ≤ i → at + k ≤ i) → getD (putNum k s at v) i d ≡ getD s i d
 unfolding putNum
 getD-putNum-other k s at v i d h = getD-put-other s at (le k v) i d (λ l. rw length-le (h l))
+
+-- a number put twice, bytes behind it between
+pub putNum-over : (k : ℕ) (s : List ℕ) (at v w b : ℕ) (bs : List ℕ) → at + k ≤ b → putNum k (put (putNum k s at v) b bs) at w ≡ putNum k (put s b bs) at w
+unfolding putNum
+putNum-over k s at v w b bs h =
+    ap (λ (l : List ℕ). put l at (le k w)) (put-swap s at (le k v) b bs (rw length-le h))
+    ∙ put-over (put s b bs) at (le k v) (le k w) (length-le k v ∙ sym (length-le k w))
 
 -- ---- a number read is that of the part it stands in
 

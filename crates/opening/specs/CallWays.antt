@@ -5,18 +5,16 @@ use mathlib.Core.Bool.{true, false, _&&_}
 use mathlib.Core.List.{List, []}
 use Prim.Native.Nat.{ℕ, _<_}
 use borrow.Author.Tests.{eq-eqb, ne-eqb}
-use Rattle.octets.specs.Cases.{and-l}
-use Rattle.octets.specs.First.{first-hits}
 use Rattle.octets.specs.declared.Found.{Found}
 use Rattle.octets.specs.declared.Found.the-variants.{At, Nothing}
 use Rattle.answers.specs.Outcome.{refusedAt}
 use Rattle.answers.specs.declared.Answer.the-variants.{Done, Refused}
 use Rattle.answers.specs.declared.Refusal.{Refusal}
 use Rattle.answers.specs.declared.Refusal.the-variants.{Unusable, Unknown, Full, AlreadyOpen, Missing, TooLarge}
-use Rattle.layout.specs.Disk.{Sound, sound, directories}
-use Rattle.layout.specs.DiskLaws.{sound→}
+use Rattle.layout.specs.Disk.{directories}
 use Rattle.layout.specs.Names.{findName}
-use Rattle.layout.specs.Session.{begun, namesAt}
+use Rattle.layout.specs.NamesLaws.{name-low}
+use Rattle.layout.specs.Session.{namesAt}
 use Rattle.session.specs.Rows.{headOf}
 use Rattle.beginning.specs.Transactions.{usable}
 use Rattle.staging.specs.Seeing.{writes}
@@ -24,15 +22,6 @@ use Rattle.opening.specs.declared.shape.Opening.{Opening}
 use Rattle.opening.specs.Shape.{openingOf, shapeOf}
 use Rattle.opening.specs.NamesLeft.{isNothing, isNinth}
 use Rattle.opening.specs.Calls.{canFill, openNow, openIn, viewFound, isOpenTape, placeFor, openAt, openOn, openCall}
-
--- a place that is found is one of eight
-pub name-low : (s : List ℕ) (base : ℕ) (wanted : List ℕ) (p : ℕ) → findName s base wanted ≡ At p → p < 8
-unfolding findName
-name-low s base wanted p e = first-hits _ 8 0 p e .high
-
-pub usable-disk : (d s : List ℕ) → usable d s ≡ true → Sound d
-unfolding usable
-usable-disk d s h = sound→ d (and-l (sound d) (begun s) h)
 
 -- the place for a tape that has one below 8, or none
 pub place-low : (s : List ℕ) (tape : Found) (p : ℕ) → ((q : ℕ) → tape ≡ At q → q < 8) → placeFor s tape ≡ At p → p < 8

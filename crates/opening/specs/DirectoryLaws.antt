@@ -1,25 +1,24 @@
 -- Laws of what an open does to a tape's directory: the disk stays sound, and of the session only the rows of tracking change. Assumes nothing.
-use mathlib.Core.Path.{_≡_, refl, _∙_}
+use mathlib.Core.Path.{_≡_, _∙_}
 use mathlib.Core.List.{List, []}
 use Prim.Native.Nat.{ℕ, _≤_}
 use native.Mathlib.Omega.{arith}
 use lib.ListN.{length}
 use Rattle.octets.specs.Cases.{picked}
 use Rattle.octets.specs.Number.{Bytes}
-use Rattle.octets.specs.Only.{OnlyIn, only-none, only-then}
-use Rattle.octets.specs.Sweep.{sweep-keeps}
+use Rattle.octets.specs.Only.{OnlyIn, only-then}
 use Rattle.octets.specs.declared.Found.{Found}
 use Rattle.octets.specs.declared.Found.the-variants.{At, Nothing}
 use Rattle.components.specs.Pieces.{fileOf}
 use Rattle.layout.specs.Disk.{directories, slots, Sound}
 use Rattle.layout.specs.Names.{findName}
-use Rattle.layout.specs.NamesLaws.{only-putName}
 use Rattle.layout.specs.Session.{sessionBytes, Begun}
-use Rattle.disk.specs.Steps.{addAt, addDirectory, emptySlot, emptyDirectory}
-use Rattle.disk.specs.StepLaws.{length-addDirectory, length-emptyDirectory, only-emptySlot}
-use Rattle.disk.specs.SoundLaws.{slots-only, sound-addDirectory, sound-emptyDirectory, bytes-addDirectory, bytes-emptyDirectory}
+use Rattle.disk.specs.Steps.{addDirectory}
+use Rattle.disk.specs.StepLaws.{length-addDirectory, length-emptyDirectory}
+use Rattle.disk.specs.SoundLaws.{slots-emptyDirectory, slots-addDirectory, sound-addDirectory, sound-emptyDirectory, bytes-addDirectory, bytes-emptyDirectory}
 use Rattle.session.specs.KeepLaws.{begun-only}
 use Rattle.rolling_tape.specs.Removal.{Areas, areas}
+use Rattle.rolling_tape.specs.Kept.{Kept, kept-none}
 use Rattle.rolling_tape.specs.RemovalLaws.{length-removeRipe-disk, slots-removeRipe, sound-removeRipe, bytes-removeRipe-disk, only-removeRipe-session, bytes-removeRipe-session}
 use Rattle.rolling_tape.specs.Tracking.{retracked}
 use Rattle.rolling_tape.specs.TrackingLaws.{length-retracked, only-retracked, bytes-retracked}
@@ -27,22 +26,6 @@ use Rattle.rolling_tape.specs.declared.tracking.Change.{Change}
 use Rattle.rolling_tape.specs.declared.tracking.Change.the-variants.{TrackUpTo, MarkBelow, UntrackAll}
 use Rattle.opening.specs.declared.shape.Opening.{Opening}
 use Rattle.opening.specs.Directory.{takenFiles, emptied, added, readied}
-
--- ---- the slot count, where a directory is made or emptied
-
-pub slots-emptyDirectory : (d : List ℕ) (place : ℕ) → slots (emptyDirectory d place) ≡ slots d
-unfolding emptyDirectory
-slots-emptyDirectory d place =
-    sweep-keeps (λ (t : List ℕ). slots t ≡ slots d) (emptySlot place) (slots d) 0 d
-    (λ j t l h p. slots-only _ _ t _ (only-emptySlot place j t) (omega arith) ∙ p) refl
-
-pub slots-addDirectory : (d wanted : List ℕ) → length wanted ≤ 24 → slots (addDirectory d wanted .area) ≡ slots d
-unfolding addDirectory
-slots-addDirectory d wanted small = by (findName d directories [])
-  where
-    by : (f : Found) → slots (addAt d wanted f .area) ≡ slots d
-    by (At i) = slots-only _ _ d _ (only-putName d directories i wanted small) (omega arith)
-    by Nothing = refl
 
 -- ---- the session of a known tape, before anything is removed
 
@@ -72,12 +55,6 @@ module _ (a : Areas) (place : ℕ) (o : Opening) (began : ℕ) where
 
 -- ---- both areas, as far as they are kept
 
-record Kept (a b : Areas) : Type 0 where
-  sound : Sound (b .disk)
-  slots-same : slots (b .disk) ≡ slots (a .disk)
-  long : length (b .disk) ≡ length (a .disk)
-  only : OnlyIn 4936 5960 (a .session) (b .session)
-
 module _ (a : Areas) (place : ℕ) (o : Opening) (began : ℕ) (sound : Sound (a .disk)) where
   kept-taken : Kept a (takenFiles a place o began)
   unfolding takenFiles
@@ -86,7 +63,7 @@ module _ (a : Areas) (place : ℕ) (o : Opening) (began : ℕ) (sound : Sound (a
       let m = marks a place o began in
       record {
         sound = sound-removeRipe m place _ sound;
-        slots-same = slots-removeRipe m place _;
+        same = slots-removeRipe m place _;
         long = length-removeRipe-disk m place _;
         only = only-then 4936 5960 (a .session) (m .session) _ (only-marked a place o began few) (only-removeRipe-session m place _ few);
       }
@@ -108,7 +85,7 @@ module _ (a : Areas) (place : ℕ) (sound : Sound (a .disk)) where
   kept-emptied =
       record {
         sound = sound-emptyDirectory (a .disk) sound place;
-        slots-same = slots-emptyDirectory (a .disk) place;
+        same = slots-emptyDirectory (a .disk) place;
         long = length-emptyDirectory (a .disk) place;
         only = only-retracked (a .disk) (a .session) place UntrackAll (sound .head .few);
       }
@@ -124,9 +101,6 @@ module _ (a : Areas) (place : ℕ) (sound : Sound (a .disk)) where
 pub sound-emptied : (a : Areas) (place : ℕ) → Sound (a .disk) → Sound (emptied a place .disk)
 sound-emptied a place sound = kept-emptied a place sound .sound
 
-kept-none : (a : Areas) → Sound (a .disk) → Kept a a
-kept-none a sound = record { sound = sound; slots-same = refl; long = refl; only = only-none 4936 5960 (a .session) }
-
 -- the place is emptied, and then gets its name
 kept-made : (a : Areas) (wanted : List ℕ) (place : ℕ) → Sound (a .disk) → length wanted ≤ 24
     → Kept a (areas (addDirectory (emptied a place .disk) wanted .area) (emptied a place .session))
@@ -135,7 +109,7 @@ kept-made a wanted place sound small =
     let d = emptied a place .disk in
     record {
       sound = sound-addDirectory d (e .sound) wanted small;
-      slots-same = slots-addDirectory d wanted small ∙ e .slots-same;
+      same = slots-addDirectory d wanted small ∙ e .same;
       long = length-addDirectory d wanted small ∙ e .long;
       only = e .only;
     }
@@ -178,7 +152,7 @@ module _ (a : Areas) (wanted : List ℕ) (o : Opening) (began : ℕ) (directory 
     sound-readied = kept-readied .sound
 
     pub slots-readied : slots (readied a wanted o began directory .disk) ≡ slots (a .disk)
-    slots-readied = kept-readied .slots-same
+    slots-readied = kept-readied .same
 
     pub length-readied-disk : length (readied a wanted o began directory .disk) ≡ length (a .disk)
     length-readied-disk = kept-readied .long

@@ -24,11 +24,12 @@ use Rattle.layout.specs.DiskLaws.{→sound}
 use Rattle.layout.specs.Names.{findName}
 use Rattle.layout.specs.Session as S
 use Rattle.layout.specs.SessionLaws.{→begun}
+use Rattle.layout.specs.NamesLaws.{name-low}
 use Rattle.session.specs.Rows.{headOf, transactionOf}
 use Rattle.session.specs.KeepLaws.{begun-putName}
 use Rattle.rolling_tape.specs.Removal.{Areas, areas}
 use Rattle.beginning.specs.Transactions.{usable}
-use Rattle.beginning.specs.Ways.{usable-begun}
+use Rattle.beginning.specs.Ways.{usable-begun, usable-disk}
 use Rattle.beginning.specs.Laws.{both-unique}
 use Rattle.staging.specs.Seeing.{writes}
 use Rattle.opening.specs.declared.shape.Opening.{Opening}
@@ -38,7 +39,7 @@ use Rattle.opening.specs.NamesLeft.{isNothing, isNinth}
 use Rattle.opening.specs.Directory.{readied}
 use Rattle.opening.specs.DirectoryLaws.{sound-readied, length-readied-disk, begun-readied, bytes-readied-disk}
 use Rattle.opening.specs.Calls.{cachedFrom, cachedCount, canFill, cachedBytes, openWith, openNow, openIn, viewFound, isOpenTape, placeFor, openPlaced, openAt, openShaped, openOn, openCall}
-use Rattle.opening.specs.CallWays.{name-low, place-low, usable-disk, in-now, at-place, on-shaped, open-goes}
+use Rattle.opening.specs.CallWays.{place-low, in-now, at-place, on-shaped, open-goes}
 use Rattle.opening.specs.PlacingLaws.{cached-most, length-cached, bytes-readRun, named, length-named, bytes-named}
 use Rattle.opening.specs.RowedLaws.{length-rowed, bytes-rowed, begun-rowed}
 

@@ -9,31 +9,26 @@ use Rattle.octets.specs.Number.{Bytes}
 use Rattle.octets.specs.Only.{OnlyIn, only-then, only-wider}
 use Rattle.octets.specs.Words.{word-at}
 use Rattle.layout.specs.Session.{sessionBytes, tapeAt, Begun}
-use Rattle.session.specs.Rows.{handleOf, handleWords, putHandle, ringOf, putRing, stagedOf, stagedWords, putStaged, fillRing}
-use Rattle.session.specs.RowLaws.{length-putHead, only-putHandle, only-putRing, ring-only, only-putStaged, staged-only, length-fillRing}
+use Rattle.session.specs.Rows.{handleOf, handleWords, putHandle, ringOf, putRing, stagedOf, putStaged, fillRing}
+use Rattle.session.specs.RowLaws.{length-putHead, only-putHandle, ring-only, only-putStaged, unwritten-same, staged-only, length-fillRing}
 use Rattle.session.specs.KeepLaws.{begun-tape, begun-putHead, begun-fillRing, bytes-putHead, bytes-putHandle, bytes-putStaged}
 use Rattle.session.specs.declared.tape_rows.Handle.{Handle}
 use Rattle.session.specs.declared.tape_rows.Staged.{Staged}
 use Rattle.cached_tape.specs.Filling.{filledWith}
-use Rattle.cached_tape.specs.FillLaws.{length-filled, bytes-filled}
+use Rattle.cached_tape.specs.FillLaws.{length-filled, only-ring, bytes-filled}
 use Rattle.opening.specs.declared.shape.Opening.{Opening}
 use Rattle.opening.specs.Calls.{cachedFrom, nextHandle, rowed}
 
 -- ---- single numbers of a row that was put: those beside them may be of any size
 
-module _ (s : List ℕ) (p : ℕ) where
-  module _ (h : Handle) (room : tapeAt p + 24 ≤ length s) where
-    pub entry-put : h .entry < 256 ^ 8 → handleOf (putHandle s p h) p .entry ≡ h .entry
-    unfolding handleOf putHandle
-    entry-put f = word-at s (tapeAt p) (handleWords h) 1 (tapeAt p + 8) room (omega arith) f (omega arith)
+module _ (s : List ℕ) (p : ℕ) (h : Handle) (room : tapeAt p + 24 ≤ length s) where
+  pub entry-put : h .entry < 256 ^ 8 → handleOf (putHandle s p h) p .entry ≡ h .entry
+  unfolding handleOf putHandle
+  entry-put f = word-at s (tapeAt p) (handleWords h) 1 (tapeAt p + 8) room (omega arith) f (omega arith)
 
-    pub size-put : h .«file_size» < 256 ^ 8 → handleOf (putHandle s p h) p .«file_size» ≡ h .«file_size»
-    unfolding handleOf putHandle
-    size-put f = word-at s (tapeAt p) (handleWords h) 2 (tapeAt p + 16) room (omega arith) f (omega arith)
-
-  pub unwritten-put : (r : Staged) → tapeAt p + 56 + 40 ≤ length s → r .unwritten < 256 ^ 8 → stagedOf (putStaged s p r) p .unwritten ≡ r .unwritten
-  unfolding stagedOf putStaged
-  unwritten-put r room f = word-at s (tapeAt p + 56) (stagedWords r) 4 (tapeAt p + 88) room (omega arith) f (omega arith)
+  pub size-put : h .«file_size» < 256 ^ 8 → handleOf (putHandle s p h) p .«file_size» ≡ h .«file_size»
+  unfolding handleOf putHandle
+  size-put f = word-at s (tapeAt p) (handleWords h) 2 (tapeAt p + 16) room (omega arith) f (omega arith)
 
 -- ---- the ring that a cache is filled as
 
@@ -44,10 +39,6 @@ module _ (s : List ℕ) (p capacity first : ℕ) (bs : List ℕ) where
   -- capacity, start, length, first index
   abbrev ring-words : List ℕ
   ring-words = capacity ∷ 0 ∷ length bs ∷ first ∷ []
-
-  only-ring : OnlyIn (tapeAt p + 24) (tapeAt p + 24 + 32) bytes-in (filledWith s p capacity first bs)
-  unfolding filledWith
-  only-ring = only-putRing bytes-in p _
 
   module _ (room : tapeAt p + 24 + 32 ≤ length s) where
     ring-room : tapeAt p + 24 + 32 ≤ length bytes-in
@@ -144,7 +135,7 @@ module _ (s : List ℕ) (p : ℕ) (o : Opening) (bs : List ℕ) where
         let capacity = capacity-filled s p (o .cache) (cachedFrom o) bs (omega arith) (omega arith) in
         let start = start-filled s p (o .cache) (cachedFrom o) bs (omega arith) in
         let len = len-filled s p (o .cache) (cachedFrom o) bs (omega arith) (omega arith) in
-        let unwritten = unwritten-put ring-put p staged-in (omega arith) (omega arith) in
+        let unwritten = unwritten-same ring-put p staged-in (omega arith) (omega arith) in
         begun-putHead handle-put
         (begun-tape _ _ row-bytes handle-put only-row p low (omega arith) (omega arith) (begun-fillRing s begun p 0 bs (omega arith))
         (rw (after-ring, after-staged)

@@ -31,7 +31,7 @@ holds b f = decide b (λ t. t) (λ e. absurd (f e))
 
 -- ---- a name
 
-name-some : (wanted : List ℕ) → nameRule wanted ≡ true → 0 < length wanted
+pub name-some : (wanted : List ℕ) → nameRule wanted ≡ true → 0 < length wanted
 name-some wanted named =
     order 0 (length wanted) (λ l. l) (λ (l : length wanted ≤ 0). absurd (true≢false (sym named ∙ rule-empty wanted (omega arith))))
 

@@ -16,12 +16,12 @@ use Rattle.beginning.specs.Transactions.{After}
 use Rattle.seen.specs.Formats.{format-unbegun}
 use Rattle.seen.specs.Unbegun.{append-unbegun, truncate-unbegun, reader-unbegun, commit-unbegun, drop-transaction-unbegun, open-unbegun, exists-unbegun, put-unbegun, shift-unbegun, cut-unbegun, drop-unbegun, len-unbegun, start-unbegun, pop-unbegun, read-unbegun, entry-unbegun}
 use Rattle.promises.specs.Calls.{Call, format, store, append, reader, truncate, openTape, appendEntries, shiftStart, truncateTape, dropEntries, popEntry, readEntries, readEntry, tapeLen, tapeStart, tapeExists, commit, dropTransaction, Fits, AllFit, perform, step, exchange, run, history}
-use Rattle.promises.specs.Told.{unknown, concerns, oldSize, tellAs, told, tell, OldSizes}
+use Rattle.promises.specs.Told.{unknown, concerns, oldSize, tellAs, tellOne, tell, OldSizes}
 use Rattle.promises.specs.Refused.{areas-leave}
 use Rattle.promises.specs.Standing.{Lore, Running, Formatted, Standing, running, formatted}
-use Rattle.promises.specs.Steps.{told-served, told-refused, stands}
+use Rattle.promises.specs.Steps.{tell-served, tell-refused, stands}
 use Rattle.promises.specs.Runs.{stands-first}
-use Rattle.promises.specs.Promise.{Run, begins, ends, known, Further, endsThen, knownThen}
+use Rattle.promises.specs.Promise.{Run, begins, ends, known}
 
 -- ---- before a session was begun
 
@@ -99,49 +99,49 @@ module _ (P : Areas → Lore → Type 0) (lasts : Lasts P) where
   -- ---- a served call
 
   module _ (d s : List ℕ) (K : Lore) (st : Standing (areas d s) K) (has : Running (areas d s) K → P (areas d s) K) where
-    abbrev Served : Call → Type 0
-    Served c = Fits c → perform c d s .code ≡ 0 → ((n : List ℕ) → oldSize (K n) (concerns n (K n) c (perform c d s .value)))
+    abbrev KeptBy : Call → Type 0
+    KeptBy c = Fits c → perform c d s .code ≡ 0 → ((n : List ℕ) → oldSize (K n) (concerns n (K n) c (perform c d s .value)))
         → Running (perform c d s .areas) (lore d s K c) → P (perform c d s .areas) (lore d s K c)
 
-    inside : (c : Call) → isInside c ≡ true → Served c
+    inside : (c : Call) → isInside c ≡ true → KeptBy c
     inside c is fits ok old r = by st has
       where
         by : Standing (areas d s) K → (Running (areas d s) K → P (areas d s) K) → P (perform c d s .areas) (lore d s K c)
         by (running q) p = lasts .keeps d s K q (p q) c is fits ok old
         by (formatted f) p = absurd (let z : _≡_ {A = ℕ} 0 1 = sym ok ∙ no-session d s (f .unbegun) c is in omega arith)
 
-    stored : Served store
+    stored : KeptBy store
     stored fits ok old r = by st has
       where
         by : Standing (areas d s) K → (Running (areas d s) K → P (areas d s) K) → P (perform store d s .areas) (lore d s K store)
         by (running q) p = lasts .renews d s K q (p q) ok
         by (formatted f) p = lasts .begins d s K f ok
 
-    served : (c : Call) → Served c
-    served (format k) = λ fits ok old r. unformatted (perform (format k) d s .areas .session) r (format-unbegun d s k ok)
-    served store = stored
-    served append = inside append refl
-    served reader = inside reader refl
-    served truncate = inside truncate refl
-    served (openTape t name entry size cache start) = inside (openTape t name entry size cache start) refl
-    served (appendEntries t h bs) = inside (appendEntries t h bs) refl
-    served (shiftStart t h i) = inside (shiftStart t h i) refl
-    served (truncateTape t h i) = inside (truncateTape t h i) refl
-    served (dropEntries t h i) = inside (dropEntries t h i) refl
-    served (popEntry t h buffer) = inside (popEntry t h buffer) refl
-    served (readEntries t h i n buffer) = inside (readEntries t h i n buffer) refl
-    served (readEntry t h i buffer) = inside (readEntry t h i buffer) refl
-    served (tapeLen t h) = inside (tapeLen t h) refl
-    served (tapeStart t h) = inside (tapeStart t h) refl
-    served (tapeExists t name) = inside (tapeExists t name) refl
-    served (commit t) = inside (commit t) refl
-    served (dropTransaction t) = inside (dropTransaction t) refl
+    kept-by : (c : Call) → KeptBy c
+    kept-by (format k) = λ fits ok old r. unformatted (perform (format k) d s .areas .session) r (format-unbegun d s k ok)
+    kept-by store = stored
+    kept-by append = inside append refl
+    kept-by reader = inside reader refl
+    kept-by truncate = inside truncate refl
+    kept-by (openTape t name entry size cache start) = inside (openTape t name entry size cache start) refl
+    kept-by (appendEntries t h bs) = inside (appendEntries t h bs) refl
+    kept-by (shiftStart t h i) = inside (shiftStart t h i) refl
+    kept-by (truncateTape t h i) = inside (truncateTape t h i) refl
+    kept-by (dropEntries t h i) = inside (dropEntries t h i) refl
+    kept-by (popEntry t h buffer) = inside (popEntry t h buffer) refl
+    kept-by (readEntries t h i n buffer) = inside (readEntries t h i n buffer) refl
+    kept-by (readEntry t h i buffer) = inside (readEntry t h i buffer) refl
+    kept-by (tapeLen t h) = inside (tapeLen t h) refl
+    kept-by (tapeStart t h) = inside (tapeStart t h) refl
+    kept-by (tapeExists t name) = inside (tapeExists t name) refl
+    kept-by (commit t) = inside (commit t) refl
+    kept-by (dropTransaction t) = inside (dropTransaction t) refl
 
   -- ---- one exchange, and any calls
 
   module _ (c : Call) (a : Areas) (K : Lore) (fits : Fits c) (old : (n : List ℕ) → step c a .code ≡ 0 → oldSize (K n) (concerns n (K n) c (step c a .value))) (h : Has a K) where
     abbrev Then : Lore
-    Then n = told n (K n) (exchange c (step c a))
+    Then n = tellOne n (K n) (exchange c (step c a))
 
     has-then : Running (step c a .areas) Then → P (step c a .areas) Then
     unfolding step
@@ -149,11 +149,11 @@ module _ (P : Areas → Lore → Type 0) (lasts : Lasts P) where
         let Q : Areas → Lore → Type 0 = λ b M. Running b M → P b M in
         equal (step c a .code) 0
         (λ (ok : step c a .code ≡ 0).
-        subst (Q (step c a .areas)) (sym (fun-ext (λ n. told-served n (K n) (exchange c (step c a)) ok)))
-        (served (a .disk) (a .session) K (h .standing) (h .has) c fits ok (λ n. old n ok)))
+        subst (Q (step c a .areas)) (sym (fun-ext (λ n. tell-served n (K n) (exchange c (step c a)) ok)))
+        (kept-by (a .disk) (a .session) K (h .standing) (h .has) c fits ok (λ n. old n ok)))
         (λ (bad : step c a .code ≢ 0).
         subst (λ (b : Areas). Q b Then) (sym (areas-leave c a bad))
-        (subst (Q a) (sym (fun-ext (λ n. told-refused n (K n) (exchange c (step c a)) bad))) (h .has)))
+        (subst (Q a) (sym (fun-ext (λ n. tell-refused n (K n) (exchange c (step c a)) bad))) (h .has)))
 
     has-next : Has (step c a .areas) Then
     has-next = record { standing = stands c a K fits old (h .standing); has = has-then }
@@ -163,7 +163,7 @@ module _ (P : Areas → Lore → Type 0) (lasts : Lasts P) where
   unfolding run history tell
   has-runs [] a K fit old h = h
   has-runs (c ∷ cs) a K fit old h =
-      has-runs cs (step c a .areas) (λ n. told n (K n) (exchange c (step c a))) (fit .1) (λ n. old n .1) (has-next c a K (fit .0) (λ n. old n .0) h)
+      has-runs cs (step c a .areas) (λ n. tellOne n (K n) (exchange c (step c a))) (fit .1) (λ n. old n .1) (has-next c a K (fit .0) (λ n. old n .0) h)
 
   module _ (r : Run) where
     -- a format leaves no session
@@ -180,6 +180,3 @@ module _ (P : Areas → Lore → Type 0) (lasts : Lasts P) where
 
     pub always : Running (ends r) (known r) → P (ends r) (known r)
     always = has-last .has
-
-    pub always-then : (f : Further r) → Running (endsThen r f) (knownThen r f) → P (endsThen r f) (knownThen r f)
-    always-then f = has-runs (f .calls) (ends r) (known r) (f .fit) (f .sizes) has-last .has

@@ -16,11 +16,11 @@ use Rattle.lives.specs.Invariant.{Phys, Good, build}
 use Rattle.seen.specs.Orderly.{Orderly}
 use Rattle.seen.specs.Seen.{Seen, Handled}
 use Rattle.seen.specs.Starts.{CutStarts, shut-starts}
-use Rattle.seen.specs.Flushes.{Inside}
-use Rattle.seen.specs.AppendOrder.{shut, commit-append-orderly, commit-append-handled}
-use Rattle.seen.specs.CommitAppends.{commit-append-seen, commit-append-answer, inside-all}
-use Rattle.seen.specs.CutLeaves.{commit-cut-orderly}
-use Rattle.seen.specs.CommitCuts.{commit-cut-starts, commit-cut-seen, commit-cut-answer, commit-cut-handled}
+use Rattle.ended.specs.Flushes.{Inside}
+use Rattle.ended.specs.AppendOrder.{shut, commit-append-orderly, commit-append-handled}
+use Rattle.ended.specs.CommitAppends.{commit-append-seen, commit-append-answer, inside-all}
+use Rattle.ended.specs.CutLeaves.{commit-cut-orderly}
+use Rattle.ended.specs.CommitCuts.{commit-cut-starts, commit-cut-seen, commit-cut-answer, commit-cut-handled}
 use Rattle.promises.specs.Told.{tellAs, calls}
 use Rattle.promises.specs.Holds.{moved}
 use Rattle.promises.specs.Standing.{Lore, Running}

@@ -1,6 +1,6 @@
 -- A transaction dropped, in a running session: a reader, a truncate or an append. Assumes nothing.
 use mathlib.Core.Path.{_≡_, refl, sym, ap, _∙_}
-use mathlib.Core.Logic.{_≢_, _⊎_, inl, inr}
+use mathlib.Core.Logic.{_⊎_, inl, inr}
 use mathlib.Core.Bool.{Bool, true, false, cond, true≢false}
 use mathlib.Core.List.{List}
 use Prim.Native.Nat.{ℕ, _<_}
@@ -28,14 +28,15 @@ use Rattle.seen.specs.Orderly.{Orderly}
 use Rattle.seen.specs.Seen.{Seen, Handled}
 use Rattle.seen.specs.Starts.{CutStarts}
 use Rattle.seen.specs.Begins.{open-kind}
-use Rattle.seen.specs.Closes.{found-transaction, drop-reader-orderly, drop-reader-handled, drop-reader-told, drop-reader-seen}
-use Rattle.seen.specs.Closes.{drop-truncate-orderly, drop-truncate-handled, drop-truncate-told, drop-truncate-seen}
-use Rattle.seen.specs.CloseStarts.{drop-reader-starts, drop-truncate-starts}
-use Rattle.seen.specs.DropLeaves.{drop-append-orderly}
-use Rattle.seen.specs.Drops.{drop-append-starts, drop-append-answer, drop-append-seen, drop-append-handles}
+use Rattle.ended.specs.Closes.{drop-reader-orderly, drop-reader-handled, drop-reader-told, drop-reader-seen}
+use Rattle.ended.specs.Closes.{drop-truncate-orderly, drop-truncate-handled, drop-truncate-told, drop-truncate-seen}
+use Rattle.ended.specs.CloseStarts.{drop-reader-starts, drop-truncate-starts}
+use Rattle.ended.specs.DropLeaves.{drop-append-orderly}
+use Rattle.ended.specs.Drops.{drop-append-starts, drop-append-answer, drop-append-seen, drop-append-handles}
 use Rattle.promises.specs.Told.{tellAs, calls}
 use Rattle.promises.specs.Holds.{Holds, moved}
 use Rattle.promises.specs.Standing.{Lore, Running}
+use Rattle.seen.specs.Transactions.{found-transaction}
 
 -- the areas have followed, of every tape; a tape that the dropped append had made has no handle any more
 record Dropped (d s u : List ℕ) (k : ℕ) : Type 0 where
@@ -48,37 +49,28 @@ record Dropped (d s u : List ℕ) (k : ℕ) : Type 0 where
 dropped-runs : (d s u : List ℕ) (k v : ℕ) (K : Lore) → Running (areas d s) K → Dropped d s u k → Running (areas d u) (λ n. tellAs (K n) v (calls (L.drop′ k)))
 dropped-runs d s u k v K r c = record { orderly = c .orderly; starts = c .starts; holds = λ n long. by n long (c .handled n long (K n .tape) (r .holds n long .phys) (r .holds n long .seen) (K n .handle) (K n .entry) (r .holds n long .handled)) }
   where
+    -- its handle is then this one: as before, or none
+    with-handle : (n : List ℕ) → 0 < length n → (handle : ℕ) → Handled u n handle (K n .entry) → ((handle ≡ K n .handle) × (K n .entry ≡ K n .entry)) ⊎ (handle ≡ 0)
+        → Holds n (areas d u) (tellAs (K n) v (calls (L.drop′ k)))
+    with-handle n long handle its which =
+        let h = r .holds n long in
+        let x = K n in
+        moved n (areas d s) (areas d u) x (L.drop′ k) v h
+        (record {
+          w = 0;
+          answer = c .answer n long (x .tape) (h .phys) (h .good) (h .seen);
+          seen = c .seen n long (x .tape) (h .phys) (h .good) (h .seen);
+          handle = handle;
+          entry = x .entry;
+          handled = its;
+          which = which;
+          says = refl;
+          last = refl;
+        })
+
     by : (n : List ℕ) → 0 < length n → Handled u n (K n .handle) (K n .entry) ⊎ Handled u n 0 (K n .entry) → Holds n (areas d u) (tellAs (K n) v (calls (L.drop′ k)))
-    by n long (inl its) =
-        let h = r .holds n long in
-        let x = K n in
-        moved n (areas d s) (areas d u) x (L.drop′ k) v h
-        (record {
-          w = 0;
-          answer = c .answer n long (x .tape) (h .phys) (h .good) (h .seen);
-          seen = c .seen n long (x .tape) (h .phys) (h .good) (h .seen);
-          handle = x .handle;
-          entry = x .entry;
-          handled = its;
-          which = inl (refl, refl);
-          says = refl;
-          last = refl;
-        })
-    by n long (inr its) =
-        let h = r .holds n long in
-        let x = K n in
-        moved n (areas d s) (areas d u) x (L.drop′ k) v h
-        (record {
-          w = 0;
-          answer = c .answer n long (x .tape) (h .phys) (h .good) (h .seen);
-          seen = c .seen n long (x .tape) (h .phys) (h .good) (h .seen);
-          handle = 0;
-          entry = x .entry;
-          handled = its;
-          which = inr refl;
-          says = refl;
-          last = refl;
-        })
+    by n long (inl its) = with-handle n long (K n .handle) its (inl (refl, refl))
+    by n long (inr its) = with-handle n long 0 its (inr refl)
 
 -- a kind that reads as a reader's is written as one
 pub reader-word : (w : ℕ) → kindFor w ≡ Kinds.Reader → w ≡ 1
@@ -155,5 +147,5 @@ module _ (d s : List ℕ) (k : ℕ) (K : Lore) (r : Running (areas d s) K) (serv
       let at : t ≡ 16 = omega (arith, found-transaction s k t found .low) in
       of-writer (found ∙ ap At at) (transactionOf s 16 .kind) refl)
 
-  pub drop-runs : (v : ℕ) → Running (areas d u) (λ n. tellAs (K n) v (calls (L.drop′ k)))
-  drop-runs v = dropped-runs d s u k v K r (of-place (finds .place) (finds .found))
+  pub drop-transaction-runs : (v : ℕ) → Running (areas d u) (λ n. tellAs (K n) v (calls (L.drop′ k)))
+  drop-transaction-runs v = dropped-runs d s u k v K r (of-place (finds .place) (finds .found))

@@ -1,13 +1,12 @@
 -- Calls on a handle, in a running session: the handle's tape follows, every other tape is as it was. Assumes nothing.
 use mathlib.Core.Path.{_≡_, refl, sym, ap, _∙_, subst}
 use mathlib.Core.Logic.{_≢_, inl}
-use mathlib.Core.Bool.{Bool, true, false, cond, not, true≢false}
+use mathlib.Core.Bool.{Bool, cond, not, true≢false}
 use mathlib.Core.List.{List}
 use Prim.Native.Nat.{ℕ, _*_, _-_, _/_}
 use native.Mathlib.Omega.{arith}
 use borrow.Author.Tests.{eq-eqb, ne-eqb, eqb-true}
 use lib.Dec.{eqb}
-use lib.ListN.{length}
 use Rattle.octets.specs.Cases.{picked, and-both, and-r}
 use Rattle.octets.specs.Number.{Bytes}
 use Rattle.answers.specs.declared.OneEntry.{OneEntry}
@@ -40,13 +39,13 @@ use Rattle.promises.specs.Holds.{Holds, moved}
 use Rattle.promises.specs.Standing.{Lore, Running}
 
 -- the handle's tape has followed the call c, which is told with the value v
-record Own (e u n : List ℕ) (k : Known) (x : Phys) (c : L.Call) (v : ℕ) : Type 0 where
+record Own (e u n : List ℕ) (k : Known) (x : Phys) (c : L.TapeCall) (v : ℕ) : Type 0 where
   w : ℕ
   leads : Leads e u n (L.step c (build (k .tape) x)) w
   says : T.told (k .tape) c (L.Done w) ≡ T.told (k .tape) c (L.Done v)
   last : lastAfter (k .last) c w ≡ lastAfter (k .last) c v
 
-module _ (d s e u : List ℕ) (h : ℕ) (K : Lore) (r : Running (areas d s) K) (v : ℕ) (c : Known → L.Call) (more : h ≢ 0) (on : OnHandle d s e u h) (starts : CutStarts u)
+module _ (d s e u : List ℕ) (h : ℕ) (K : Lore) (r : Running (areas d s) K) (v : ℕ) (c : Known → L.TapeCall) (more : h ≢ 0) (on : OnHandle d s e u h) (starts : CutStarts u)
     (own : (n : List ℕ) → (p : Holds n (areas d s) (K n)) → Handled s n h (K n .entry) → Own e u n (K n) (p .phys) (c (K n)) v) where
   ours : (n : List ℕ) → (p : Holds n (areas d s) (K n)) → h ≡ K n .handle → Holds n (areas e u) (tellAs (K n) v (calls (c (K n))))
   ours n p is =
@@ -117,9 +116,9 @@ module _ (d s : List ℕ) (t h : ℕ) (K : Lore) (r : Running (areas d s) K) whe
       handle-runs d s d _ h K r v (λ k. L.cut t (i * k .entry)) (handle-some s h (c .tape) (c .found)) (cut-on d s t h i served o) (cuts-starts d s o t h _ c (r .starts))
       (λ n p its. record { w = 0; leads = cut-own d s t h i served o n (K n .entry) its (K n .tape) (p .phys) (p .good) (p .seen); says = refl; last = refl })
 
-  pub drop-runs : (i v : ℕ) → codeOf (dropCall d s t h i .answer) ≡ 0
+  pub drop-entries-runs : (i v : ℕ) → codeOf (dropCall d s t h i .answer) ≡ 0
       → Running (areas d (dropCall d s t h i .session)) (λ n. tellAs (K n) v (ifOurs (K n) h (L.cut t (entriesLeft (K n) i * K n .entry))))
-  drop-runs i v served =
+  drop-entries-runs i v served =
       let o = r .orderly in
       let c = drop-to d s t h i served in
       handle-runs d s d _ h K r v (λ k. L.cut t (entriesLeft k i * k .entry)) (handle-some s h (c .tape) (c .found)) (drop-on d s t h i served o) (cuts-starts d s o t h _ c (r .starts))

@@ -33,7 +33,7 @@ pub record Holds (n : List ℕ) (a : Areas) (k : Known) : Type 0 where
 
 -- the areas have followed a call of one tape that was served with v: what is seen of it is what the call makes of it, its handle is as before or gone, and what
 -- else the model's own answer w says is the same
-pub record Moves (n : List ℕ) (a : Areas) (k : Known) (st : Store) (c : L.Call) (v : ℕ) : Type 0 where
+pub record Moves (n : List ℕ) (a : Areas) (k : Known) (st : Store) (c : L.TapeCall) (v : ℕ) : Type 0 where
   pub w : ℕ
   pub answer : L.step c st .answer ≡ Done w
   pub seen : Seen (a .disk) (a .session) n (L.step c st .store)
@@ -119,7 +119,7 @@ module _ (st : Store) (w : ℕ) where
   last-drop k (L.appending m b h l s) = picked (Last (st .last)) (eqb k m) _ _ (λ e d. refl) (λ e. last-reader k)
   last-drop k (L.cutting m l) = picked (Last (st .last)) (eqb k m) _ _ (λ e d. refl) (λ e. last-reader k)
 
-  last-step : (c : L.Call) → L.step c st .answer ≡ Done w → L.step c st .store .last ≡ lastAfter (st .last) c w
+  last-step : (c : L.TapeCall) → L.step c st .answer ≡ Done w → L.step c st .store .last ≡ lastAfter (st .last) c w
   unfolding L.step
   last-step L.restart d = refl
   last-step L.reader d = done-is d
@@ -162,7 +162,7 @@ pub record Follows (n : List ℕ) (a : Areas) (t : Told) (last : ℕ) : Type 0 w
   pub seen : Seen (a .disk) (a .session) n (build t phys)
   pub count : phys .last ≡ last
 
-pub followed : (n : List ℕ) (a b : Areas) (k : Known) (c : L.Call) (v w : ℕ) (h : Holds n a k) → L.step c (build (k .tape) (h .phys)) .answer ≡ Done w
+pub followed : (n : List ℕ) (a b : Areas) (k : Known) (c : L.TapeCall) (v w : ℕ) (h : Holds n a k) → L.step c (build (k .tape) (h .phys)) .answer ≡ Done w
     → Seen (b .disk) (b .session) n (L.step c (build (k .tape) (h .phys)) .store) → T.told (k .tape) c (Done w) ≡ T.told (k .tape) c (Done v)
     → lastAfter (k .last) c w ≡ lastAfter (k .last) c v → Follows n b (T.told (k .tape) c (Done v)) (lastAfter (k .last) c v)
 followed n a b k c v w h answer seen says last =
@@ -178,7 +178,7 @@ followed n a b k c v w h answer seen says last =
       count = ap (λ (x : Store). x .last) (sym store) ∙ last-step st w c answer ∙ ap (λ (x : ℕ). lastAfter x c w) (h .last) ∙ last;
     }
 
-pub moved : (n : List ℕ) (a b : Areas) (k : Known) (c : L.Call) (v : ℕ) (h : Holds n a k) → Moves n b k (build (k .tape) (h .phys)) c v
+pub moved : (n : List ℕ) (a b : Areas) (k : Known) (c : L.TapeCall) (v : ℕ) (h : Holds n a k) → Moves n b k (build (k .tape) (h .phys)) c v
     → Holds n b (afterwards k (T.told (k .tape) c (Done v)) (lastAfter (k .last) c v))
 moved n a b k c v h m =
     let t : Told = T.told (k .tape) c (Done v) in

@@ -3,7 +3,7 @@ pub mod Told
 pub mod Promise
 pub mod Theorems
 pub mod Examples
-pub mod Sizes
+pub mod Premises
 pub mod Refused
 pub mod Leaves
 pub mod Holds
@@ -25,6 +25,9 @@ pub mod Waiting
 pub mod Always
 pub mod Rooms
 pub mod Proper
+pub mod FileSizes
+pub mod Furnished
+pub mod CommitsServed
 pub mod Wholes
 pub mod Puts
 pub mod StaysOpen

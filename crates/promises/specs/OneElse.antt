@@ -9,7 +9,6 @@ use native.Mathlib.Omega.{arith}
 use borrow.Author.Tests.{eq-eqb}
 use lib.ListN.{length}
 use Rattle.octets.specs.Cases.{equal}
-use Rattle.octets.specs.declared.Found.{Found}
 use Rattle.octets.specs.declared.Found.the-variants.{At}
 use Rattle.answers.specs.Outcome.{popping}
 use Rattle.answers.specs.declared.OneEntry.the-variants.{NoEntry}
@@ -24,8 +23,7 @@ use Rattle.lives.specs.Told.{cutting, Page, page}
 use Rattle.lives.specs.Invariant.{eraseW, isAppend, GoodIf}
 use Rattle.seen.specs.Handles.{Placed, handle-place}
 use Rattle.seen.specs.Kinds.{cuts-as, cuts-open}
-use Rattle.seen.specs.Closes.{find-transaction, orderly-usable}
-use Rattle.seen.specs.Reads.{viewP, sight, len-served, start-served}
+use Rattle.seen.specs.Reads.{viewP, one-place, sight, len-served, start-served}
 use Rattle.promises.specs.Calls.{popEntry, readEntry, tapeLen, tapeStart, result, ofAnswer, ofEntering, ofPopping, step}
 use Rattle.promises.specs.Holds.{Holds}
 use Rattle.promises.specs.Standing.{Lore, Running}
@@ -34,11 +32,9 @@ use Rattle.promises.specs.Runs.{stands-last}
 use Rattle.promises.specs.Reading.{with-handle}
 use Rattle.promises.specs.Outside.{Beyond, beyond-read}
 use Rattle.promises.specs.StaysOpen.{lives}
-use Rattle.promises.specs.Proper.{truncate-cuts}
-
--- a transaction is found in one place
-same-place : (f : Found) (i j : ℕ) → f ≡ At i → f ≡ At j → i ≡ j
-same-place f i j e g = cc
+use Rattle.promises.specs.CommitsServed.{truncate-cuts}
+use Rattle.seen.specs.Orderly.{orderly-usable}
+use Rattle.seen.specs.Transactions.{find-transaction}
 
 module _ (d s : List ℕ) (K : Lore) (r : Running (areas d s) K) (n : List ℕ) (long : 0 < length n) (given : K n .handle ≢ 0) (t : ℕ) where
   abbrev h : ℕ
@@ -84,7 +80,7 @@ module _ (d s : List ℕ) (K : Lore) (r : Running (areas d s) K) (n : List ℕ) 
         let is : page t (K n .tape) ≡ some cut-page = rw (writer, eq-eqb t t refl, listed) in
         let x = sight d s n (r .orderly) (r .starts) (K n .tape) (own .phys) (own .seen) (its .place) (its .at) t cut-page is refl in
         let there : findTransaction s t ≡ At 16 = find-transaction d s (r .orderly) t 16 (record { low = omega arith; opened = cuts-open s t cutter; number = cuts-as s t cutter }) in
-        ap (λ (y : ℕ). seenBy s y (its .place)) (same-place (findTransaction s t) 16 (x .place) there (x .found)) ∙ x .view
+        ap (λ (y : ℕ). seenBy s y (its .place)) (one-place (findTransaction s t) 16 (x .place) there (x .found)) ∙ x .view
 
     many : seenBy s 16 (its .place) .len / entrySize s (its .place) ≡ length c / e
     many = rw (view, its .entry-size)

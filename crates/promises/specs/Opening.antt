@@ -26,8 +26,8 @@ use Rattle.lives.specs.Invariant.{build, eraseW}
 use Rattle.seen.specs.Orderly.{Orderly}
 use Rattle.seen.specs.Seen.{placeOf, shown, stagedIn, writerIn, viewIn, Seen, Handled}
 use Rattle.seen.specs.Places.{found-low}
-use Rattle.seen.specs.OpensServed.{open-served}
-use Rattle.seen.specs.Opens.{openMemory, open-answers, open-orderly, open-writer, open-seen-other, open-handled-other, open-handled, open-seen, open-steps}
+use Rattle.opened.specs.OpensServed.{open-served}
+use Rattle.opened.specs.Opens.{openMemory, open-answers, open-orderly, open-writer, open-seen-other, open-handled-other, open-handled, open-seen, open-steps}
 use Rattle.promises.specs.Told.{Concern, apart, opens, tellAs, oldSize}
 use Rattle.promises.specs.Holds.{Holds, followed}
 use Rattle.promises.specs.Standing.{Lore, Running}

@@ -8,7 +8,7 @@ use mathlib.Core.List.{List, [], _∷_, map}
 use Prim.Native.Nat.{ℕ, _+_, _*_, _<_}
 use native.Mathlib.Nat.{add-mul}
 use native.Mathlib.Omega.{arith}
-use borrow.Author.Tests.{eq-eqb, eqb-true}
+use borrow.Author.Tests.{eq-eqb, eqb-true, not-true}
 use lib.Dec.{eqb}
 use lib.ListN.{length}
 use Rattle.octets.specs.Cases.{picked, order, and-l, and-r}
@@ -33,10 +33,10 @@ use Rattle.lives.specs.Life.{Reader, Writer}
 use Rattle.lives.specs.Told.{Window, Staging, idle, appending, cutting, Told, Page, pageIn, pageOf, page}
 use Rattle.lives.specs.Invariant.{Phys, erase, eraseW, build, Staged, Live, GoodIf}
 use Rattle.seen.specs.Seen.{placeOf, shown, readerIn, writerAs, countIn, Seen}
-use Rattle.seen.specs.Orderly.{Orderly}
+use Rattle.seen.specs.Orderly.{Orderly, orderly-usable}
+use Rattle.seen.specs.Shown.{shown-keeps}
 use Rattle.seen.specs.Counts.{in-none, in-hit, in-miss, open-some, open-place}
 use Rattle.seen.specs.Handles.{Placed, handle-place, live-at}
-use Rattle.seen.specs.Closes.{found-transaction, find-transaction, orderly-usable}
 use Rattle.seen.specs.Waits.{idle-seen}
 use Rattle.seen.specs.Reads.{viewP, sight}
 use Rattle.promises.specs.Calls.{readEntries, step}
@@ -45,6 +45,7 @@ use Rattle.promises.specs.Standing.{Lore, Running}
 use Rattle.promises.specs.Promise.{ends, known, ReadsElse}
 use Rattle.promises.specs.Runs.{stands-last}
 use Rattle.promises.specs.Reading.{with-handle}
+use Rattle.seen.specs.Transactions.{found-transaction, find-transaction}
 
 -- ---- windows with no page, and with one that is not here
 
@@ -141,13 +142,6 @@ record Blind (s : List ℕ) (k p : ℕ) : Type 0 where
   found : findTransaction s k ≡ At place
   unlisted : seenBy s place p .listed ≡ false
 
-shown-listed : (v : View) → shown v .listed ≡ v .listed
-shown-listed v = picked (λ (x : View). x .listed ≡ v .listed) (v .listed) v _ (λ e. refl) (λ e. sym e)
-
-not-false : (b : Bool) → not b ≡ true → b ≡ false
-not-false true e = sym e
-not-false false e = refl
-
 module _ (d s n : List ℕ) (o : Orderly d s) (t : Told) (p : Phys) (seen : Seen d s n (build t p)) (a : ℕ) (at : placeOf s n ≡ At a) where
   window-blind : (k : ℕ) (q : Page) → pageIn k (t .windows) ≡ some q → q .here ≡ false → Blind s k a
   window-blind k q is hidden =
@@ -155,11 +149,11 @@ module _ (d s n : List ℕ) (o : Orderly d s) (t : Told) (p : Phys) (seen : Seen
       let x = found .place in
       let both : isHidden k (readerIn s (At a) x) ≡ true = subst (λ (f : Found). isHidden k (readerIn s f x) ≡ true) at (found .holds) in
       let number : k ≡ transactionOf s x .number = eqb-true k (transactionOf s x .number) (and-l (eqb k (transactionOf s x .number)) _ both) in
-      let unseen : shown (viewOf s x a) .listed ≡ false = not-false _ (and-r (eqb k (transactionOf s x .number)) _ both) in
+      let unseen : shown (viewOf s x a) .listed ≡ false = not-true _ (and-r (eqb k (transactionOf s x .number)) _ both) in
       record {
         place = x;
         found = find-transaction d s o k x (record { low = omega (arith, found .low); opened = found .opened; number = sym number });
-        unlisted = ap (λ (v : View). v .listed) (sym (seen-view s x a (λ e. omega (arith, found .low)))) ∙ sym (shown-listed (viewOf s x a)) ∙ unseen;
+        unlisted = ap (λ (v : View). v .listed) (sym (seen-view s x a (λ e. omega (arith, found .low)))) ∙ sym (shown-keeps (viewOf s x a)) ∙ unseen;
       }
 
   -- a writer sees every open tape

@@ -39,7 +39,7 @@ use Rattle.promises.specs.Standing.{Lore, Running, Standing, running, fo
 use Rattle.promises.specs.Promise.{ends, known, endsThen, knownThen, isOpen, isWriter, PageStands, ReadsAgain}
 use Rattle.promises.specs.Runs.{stands-last, stands-then}
 use Rattle.promises.specs.Reading.{front, with-handle, reads}
-use Rattle.promises.specs.StaysOpen.{KeepsCall, KeepsTape, Kept, lasts, numbered, handle-kept}
+use Rattle.promises.specs.StaysOpen.{KeepsCall, KeepsTape, KeptOpen, lasts, numbered, handle-kept}
 
 -- ---- a window in a running session
 
@@ -174,7 +174,7 @@ commit-page t u tape (appending m h c s) = picked (λ (y : Told). pageIn t (y .w
 commit-page t u tape (cutting m c) = picked (λ (y : Told). pageIn t (y .windows) ≡ pageIn t (tape .windows)) (eqb u m) _ _ (λ e. refl) (λ e. refl)
 
 -- a new window has another number
-call-page : (t : ℕ) (k : Known) (v : ℕ) (c : L.Call) → KeepsCall t k v c → t ≤ k .last → pageIn t (T.told (k .tape) c (L.Done v) .windows) ≡ pageIn t (k .tape .windows)
+call-page : (t : ℕ) (k : Known) (v : ℕ) (c : L.TapeCall) → KeepsCall t k v c → t ≤ k .last → pageIn t (T.told (k .tape) c (L.Done v) .windows) ≡ pageIn t (k .tape .windows)
 unfolding pageIn
 call-page t k v L.restart l old = absurd l
 call-page t k v L.reader l old = rw (ne-eqb t v (λ e. omega (arith, l)))
@@ -198,7 +198,7 @@ module _ (t : ℕ) (n : List ℕ) (long : 0 < length n) (q : Page) where
   abbrev Watches : Known → Type 0
   Watches k = pageIn t (k .tape .windows) ≡ some q
 
-  watches : Kept t n Watches
+  watches : KeptOpen t n Watches
   watches =
       record {
         begun = none-shown t q;
@@ -225,7 +225,7 @@ record Holding (t h e : ℕ) (q : Page) (k : Known) : Type 0 where
   entry-is : k .entry ≡ e
 
 module _ (t : ℕ) (n : List ℕ) (long : 0 < length n) (q : Page) (h e : ℕ) (more : h ≢ 0) (here : q .here ≡ true) where
-  holding : Kept t n (Holding t h e q)
+  holding : KeptOpen t n (Holding t h e q)
   holding =
       record {
         begun = λ p. none-shown t q (p .page-is);

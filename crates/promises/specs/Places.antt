@@ -26,15 +26,15 @@ use Rattle.seen.specs.Seen.{Handled}
 use Rattle.seen.specs.Handles.{handle-own}
 use Rattle.seen.specs.Touching.{stagedLen, append-writer}
 use Rattle.seen.specs.Puts.{put-found, put-value}
-use Rattle.promises.specs.Calls.{Call, append, appendEntries, AllFit, step, exchange, run, history}
-use Rattle.promises.specs.Told.{Known, unknown, Concern, apart, anew, opens, calls, concerns, isOurs, tellAs, told, tell, OldSizes}
+use Rattle.promises.specs.Calls.{Call, appendEntries, AllFit, step, exchange, run, history}
+use Rattle.promises.specs.Told.{Known, unknown, Concern, apart, anew, opens, calls, concerns, isOurs, tellAs, tellOne, tell, OldSizes}
 use Rattle.promises.specs.Standing.{Lore, Running, Standing}
-use Rattle.promises.specs.Promise.{ends, known, isWriter, Served, keepsOpen, TwoPlaces}
-use Rattle.promises.specs.Steps.{stands, told-served}
+use Rattle.promises.specs.Promise.{ends, known, isWriter, AllServed, keepsOpen, TwoPlaces}
+use Rattle.promises.specs.Steps.{stands, tell-served}
 use Rattle.promises.specs.Runs.{runs, stands-last}
 use Rattle.promises.specs.Reading.{with-handle}
 use Rattle.promises.specs.Wholes.{put-entire}
-use Rattle.promises.specs.StaysOpen.{KeepsCall, KeepsTape, Kept, lasts, handle-kept}
+use Rattle.promises.specs.StaysOpen.{KeepsCall, KeepsTape, KeptOpen, lasts, handle-kept}
 
 -- ---- what an append has staged only grows
 
@@ -72,7 +72,7 @@ shift-stages t len u o w x =
     (λ e. record { here = x .here; content = x .content; start = max (x .start) o; is = refl; enough = x .enough })
     (λ e. record { here = x .here; content = x .content; start = x .start; is = refl; enough = x .enough }))
 
-stages-call : (t len : ℕ) (k : Known) (v : ℕ) (c : L.Call) → KeepsCall t k v c → Stages t len (k .tape .writer) → Stages t len (T.told (k .tape) c (L.Done v) .writer)
+stages-call : (t len : ℕ) (k : Known) (v : ℕ) (c : L.TapeCall) → KeepsCall t k v c → Stages t len (k .tape .writer) → Stages t len (T.told (k .tape) c (L.Done v) .writer)
 stages-call t len k v L.restart l x = absurd l
 stages-call t len k v L.reader l x = x
 stages-call t len k v L.append l x = absurd (let y = x .is in let z : _≡_ {A = ℕ} 0 1 = cc in omega arith)
@@ -105,7 +105,7 @@ module _ (t : ℕ) (n : List ℕ) (long : 0 < length n) (len h e : ℕ) (more : 
   unfolding unknown
   not-begun p = more (sym (p .handle-is))
 
-  grows : Kept t n (Grows t len h e)
+  grows : KeptOpen t n (Grows t len h e)
   grows =
       record {
         begun = not-begun;
@@ -176,7 +176,7 @@ module _ (a : Areas) (K : Lore) (n : List ℕ) (long : 0 < length n) (t : ℕ) (
       subst (λ (b : Bool). Grows t (length (x .content) + length bs) h e (tellAs (K n) v (cond b (calls (L.put t bs)) apart))) (sym ours)
       (record { staged = long-as; handle-is = kept .0; entry-is = kept .1 })
 
-  two-from : AllFit (c ∷ rest) → ((m : List ℕ) → OldSizes m (history (c ∷ rest) a) (K m)) → Standing a K → Served (keepsOpen t) (history (c ∷ rest) a)
+  two-from : AllFit (c ∷ rest) → ((m : List ℕ) → OldSizes m (history (c ∷ rest) a) (K m)) → Standing a K → AllServed (keepsOpen t) (history (c ∷ rest) a)
       → step c a .code ≡ 0 → step c (run (c ∷ rest) a) .code ≡ 0
       → (step c a .value < step c (run (c ∷ rest) a) .value) × (step c a .value + length bs / e ≤ step c (run (c ∷ rest) a) .value)
   unfolding run history step
@@ -187,9 +187,9 @@ module _ (a : Areas) (K : Lore) (n : List ℕ) (long : 0 < length n) (t : ℕ) (
       let was = put-place a K r n long h e (r .holds n long .handled) t bs first bytes 0 x in
       let len = length (x .content) + length bs in
       let b = step c a .areas in
-      let M : Lore = λ m. told m (K m) (exchange c (step c a)) in
+      let M : Lore = λ m. tellOne m (K m) (exchange c (step c a)) in
       let then = stands c a K (fit .0) (λ m. old m .0) st in
-      let start : Grows t len h e (M n) = subst (Grows t len h e) (sym (told-served n (K n) (exchange c (step c a)) first)) (put-grows r x (step c a .value)) in
+      let start : Grows t len h e (M n) = subst (Grows t len h e) (sym (tell-served n (K n) (exchange c (step c a)) first)) (put-grows r x (step c a .value)) in
       let p = lasts t n long (Grows t len h e) (grows t n long len h e more) rest b M (fit .1) (λ m. old m .1) then (stays .1) start in
       let N : Lore = λ m. tell m (history rest b) (M m) in
       let q = with-handle (run rest b) N n long (λ z. more (sym (p .handle-is) ∙ z)) (runs rest b M (fit .1) (λ m. old m .1) then) in
@@ -208,7 +208,7 @@ two-places r f n long t bs rest some-bytes more is stays first second =
     let K = known r in
     let c = appendEntries t (known r n .handle) bs in
     subst
-    (λ (cs : List Call). AllFit cs → ((m : List ℕ) → OldSizes m (history cs a) (K m)) → Served (keepsOpen t) (history cs a) → step c (run cs a) .code ≡ 0
+    (λ (cs : List Call). AllFit cs → ((m : List ℕ) → OldSizes m (history cs a) (K m)) → AllServed (keepsOpen t) (history cs a) → step c (run cs a) .code ≡ 0
     → (step c a .value < step c (run cs a) .value) × (step c a .value + length bs / K n .entry ≤ step c (run cs a) .value))
     (sym is)
     (λ fit old open-still again. two-from a K n long t bs rest some-bytes more fit old (stands-last r) open-still first again)

@@ -1,6 +1,6 @@
 -- Demand 3: the statements. A reviewer reads this file first. It rests on `Calls.antt` (the calls, their steps, which are the definitions that the contracts
 -- cite, and a run of them), on `Told.antt` (what the calls' arguments and answers say of the tape of a name) and, for one tape, on `lives/specs/Told.antt`
--- (Told, told, page, before). The proofs stand in `Theorems.antt`, and behind it in `seen`, `joins`, `lives` and `held`. Assumes nothing.
+-- (Told, told, page, before). The proofs stand in `Theorems.antt`, and behind it in `ended`, `opened`, `seen`, `joins`, `lives` and `held`. Assumes nothing.
 use mathlib.Core.Path.{_≡_}
 use mathlib.Core.Bool.{Bool, true, false, not, _||_}
 use mathlib.Core.Logic.{_≢_, _⊎_}
@@ -99,12 +99,12 @@ isQuiet (commit t) = false
 isQuiet (dropTransaction t) = true
 
 -- what was served of some calls has a property
-abbrev pub Served : (Call → Bool) → List Exchange → Type 0
-Served has [] = Unit {0}
-Served has (x ∷ xs) = (x .code ≡ 0 → has (x .call) ≡ true) × Served has xs
+abbrev pub AllServed : (Call → Bool) → List Exchange → Type 0
+AllServed has [] = Unit {0}
+AllServed has (x ∷ xs) = (x .code ≡ 0 → has (x .call) ≡ true) × AllServed has xs
 
 abbrev pub Quiet : List Exchange → Type 0
-Quiet = Served isQuiet
+Quiet = AllServed isQuiet
 
 module _ (r : Run) (n : List ℕ) where
   -- the open windows that began before the last commit
@@ -122,7 +122,7 @@ pub record Waiting (r : Run) (w : ℕ) (n : List ℕ) : Type 0 where
   pub waits : (f : Further r) → Quiet (history (f .calls) (ends r)) → (x : Window) → List·Memᴰ x (earlier r n)
       → isOpen (x .number) (knownThen r f n .tape .windows) ≡ true → step append (endsThen r f) .code ≢ 0
   -- when none is, no writer is open and transaction numbers remain, it is let in, however many windows opened since
-  pub served : (f : Further r) → Quiet (history (f .calls) (ends r))
+  pub goes-in : (f : Further r) → Quiet (history (f .calls) (ends r))
       → ((x : Window) → List·Memᴰ x (earlier r n) → isOpen (x .number) (knownThen r f n .tape .windows) ≡ false)
       → knownThen r f n .tape .writer ≡ idle → knownThen r f n .last ≢ 0xffff_ffff_ffff_ffff → step append (endsThen r f) .code ≡ 0
 
@@ -237,13 +237,13 @@ keepsOpen t (dropTransaction u) = not (eqb t u)
 -- what a window is told of a tape, whatever is called while it is open
 abbrev pub PageStands : Type 0
 PageStands = (r : Run) (f : Further r) (n : List ℕ) → 0 < length n → (t : ℕ)
-    → isOpen t (known r n .tape .windows) ≡ true → Served (keepsOpen t) (history (f .calls) (ends r))
+    → isOpen t (known r n .tape .windows) ≡ true → AllServed (keepsOpen t) (history (f .calls) (ends r))
     → page t (knownThen r f n .tape) ≡ page t (known r n .tape)
 
 -- so two equal reads in one window give equal bytes
 abbrev pub ReadsAgain : Type 0
 ReadsAgain = (r : Run) (f : Further r) (n : List ℕ) → 0 < length n → (t i count : ℕ) (buffer later : List ℕ) (q : Page)
-    → isOpen t (known r n .tape .windows) ≡ true → Served (keepsOpen t) (history (f .calls) (ends r))
+    → isOpen t (known r n .tape .windows) ≡ true → AllServed (keepsOpen t) (history (f .calls) (ends r))
     → known r n .handle ≢ 0
     → page t (known r n .tape) ≡ some q → q .here ≡ true
     → q .start ≤ i * known r n .entry → (i + count) * known r n .entry ≤ length (q .content)
@@ -264,7 +264,7 @@ Puts = (r : Run) (n : List ℕ) → 0 < length n → (t : ℕ) (bs c : List ℕ)
 abbrev pub TwoPlaces : Type 0
 TwoPlaces = (r : Run) (f : Further r) (n : List ℕ) → 0 < length n → (t : ℕ) (bs : List ℕ) (rest : List Call)
     → 0 < length bs → known r n .handle ≢ 0
-    → f .calls ≡ appendEntries t (known r n .handle) bs ∷ rest → Served (keepsOpen t) (history (f .calls) (ends r))
+    → f .calls ≡ appendEntries t (known r n .handle) bs ∷ rest → AllServed (keepsOpen t) (history (f .calls) (ends r))
     → step (appendEntries t (known r n .handle) bs) (ends r) .code ≡ 0
     → step (appendEntries t (known r n .handle) bs) (endsThen r f) .code ≡ 0
     → (step (appendEntries t (known r n .handle) bs) (ends r) .value < step (appendEntries t (known r n .handle) bs) (endsThen r f) .value)

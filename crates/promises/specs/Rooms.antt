@@ -34,23 +34,24 @@ use Rattle.ending.specs.Dropping.{dropTransactionCall}
 use Rattle.ending.specs.DropLaws.{drop-cases}
 use Rattle.seen.specs.Orderly.{Orderly}
 use Rattle.seen.specs.Begins.{begins-rows, open-kind}
-use Rattle.seen.specs.Closes.{found-transaction, truncate-closes}
+use Rattle.ended.specs.Closes.{truncate-closes}
 use Rattle.seen.specs.Handles.{handle-letters, handle-handled}
 use Rattle.seen.specs.Cuts.{cut-to, drop-to, pop-to}
 use Rattle.seen.specs.Puts.{put-found}
-use Rattle.seen.specs.AppendOrder.{shut}
-use Rattle.seen.specs.CutLeaves.{cut-left}
-use Rattle.seen.specs.DropLeaves.{drop-left}
+use Rattle.ended.specs.AppendOrder.{shut}
+use Rattle.ended.specs.CutLeaves.{cut-left}
+use Rattle.ended.specs.DropLeaves.{drop-left}
 use Rattle.seen.specs.Restarts.{shut-stored}
 use Rattle.seen.specs.Rooms.{Roomy, append-roomy, idle-roomy, cutting-roomy, reader-roomy, drop-reader-roomy, shift-roomy, cuts-roomy, commit-fine}
 use Rattle.seen.specs.PutRooms.{put-roomy}
-use Rattle.seen.specs.OpenRooms.{open-roomy}
+use Rattle.opened.specs.OpenRooms.{open-roomy}
 use Rattle.promises.specs.Calls.{Call, format, store, append, reader, truncate, openTape, appendEntries, shiftStart, truncateTape, dropEntries, popEntry, readEntries, readEntry, tapeLen, tapeStart, tapeExists, commit, dropTransaction, Fits, perform, step}
 use Rattle.promises.specs.Standing.{Lore, Running, Standing, running, formatted}
 use Rattle.promises.specs.Drops.{reader-word}
 use Rattle.promises.specs.Runs.{stands-last}
 use Rattle.promises.specs.Always.{isInside, no-session, Lasts, always}
 use Rattle.promises.specs.Promise.{ends, known, Commits}
+use Rattle.seen.specs.Transactions.{found-transaction}
 
 -- a closed place has no append
 closed-roomy : (d s : List ℕ) (row : Transaction) → transactionOf s 16 ≡ row → isOpen (row .kind) ≡ false → Roomy d s

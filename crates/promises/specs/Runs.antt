@@ -3,7 +3,7 @@ use mathlib.Core.List.{List, [], _∷_}
 use Prim.Native.Nat.{ℕ}
 use Rattle.rolling_tape.specs.Removal.{Areas}
 use Rattle.promises.specs.Calls.{Call, AllFit, step, exchange, run, history}
-use Rattle.promises.specs.Told.{unknown, told, tell, OldSizes}
+use Rattle.promises.specs.Told.{unknown, tellOne, tell, OldSizes}
 use Rattle.promises.specs.Standing.{Lore, Standing, formatted}
 use Rattle.promises.specs.Sessions.{format-runs}
 use Rattle.promises.specs.Steps.{stands}
@@ -14,7 +14,7 @@ pub runs : (cs : List Call) (a : Areas) (K : Lore) → AllFit cs → ((n : List 
 unfolding run history tell
 runs [] a K fit old st = st
 runs (c ∷ cs) a K fit old st =
-    runs cs (step c a .areas) (λ n. told n (K n) (exchange c (step c a))) (fit .1) (λ n. old n .1) (stands c a K (fit .0) (λ n. old n .0) st)
+    runs cs (step c a .areas) (λ n. tellOne n (K n) (exchange c (step c a))) (fit .1) (λ n. old n .1) (stands c a K (fit .0) (λ n. old n .0) st)
 
 module _ (r : Run) where
   pub stands-first : Standing (begins r) (λ n. unknown)

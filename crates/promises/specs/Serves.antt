@@ -1,61 +1,49 @@
 -- What is served as told, whatever was called before: a put finds its directory, an open transaction is dropped, and a listed tape that has no handle is opened.
 -- Assumes nothing.
-use mathlib.Core.Path.{_≡_, refl, sym, ap, _∙_, subst}
+use mathlib.Core.Path.{_≡_, refl, sym, ap, _∙_}
 use mathlib.Core.Logic.{_≢_}
 use mathlib.Core.Bool.{Bool, true, false, true≢false}
 use mathlib.Core.Option.{Option, none, some, Option·none-ne-some}
 use mathlib.Core.List.{List, [], _∷_, map}
-use Prim.Native.Nat.{ℕ, _%_, _≤_, _<_}
+use Prim.Native.Nat.{ℕ, _<_}
 use native.Mathlib.Omega.{arith}
 use borrow.Author.Tests.{eq-eqb, eqb-true}
 use lib.Dec.{eqb}
 use lib.ListN.{length}
 use Rattle.octets.specs.Cases.{picked}
-use Rattle.octets.specs.Compare.{sameBytes}
 use Rattle.octets.specs.declared.Found.{Found}
 use Rattle.octets.specs.declared.Found.the-variants.{At, Nothing}
 use Rattle.answers.specs.Answers.{codeOf, refusalNumber}
-use Rattle.answers.specs.Outcome.{Outcome, refusedAt}
 use Rattle.answers.specs.declared.Answer.{Answer}
 use Rattle.answers.specs.declared.Answer.the-variants.{Done, Refused}
 use Rattle.answers.specs.declared.Refusal.{Refusal}
 use Rattle.answers.specs.declared.Refusal.the-variants.{Unusable, Unknown, WriterOpen, Wait, Full, BadName, ReservedName, BadSize, AlreadyOpen, NotWhole, Absent, OutOfBounds, StartPastLength, LongerCut, NoSlot, Missing, BadList, TooLarge}
-use Rattle.metadata.specs.Name.{nameRule}
-use Rattle.layout.specs.Disk.{directories}
-use Rattle.layout.specs.Names.{findName}
-use Rattle.layout.specs.Session.{namesAt, handleNumber}
-use Rattle.session.specs.Rows.{headOf, transactionOf, findTransaction}
+use Rattle.layout.specs.Session.{handleNumber}
+use Rattle.session.specs.Rows.{transactionOf, findTransaction}
 use Rattle.beginning.specs.Transactions.{After, isOpenAt}
 use Rattle.staging.specs.Seeing.{writes, cuts}
 use Rattle.appending.specs.Calls.{putCall}
-use Rattle.opening.specs.declared.shape.Opening.{Opening}
-use Rattle.opening.specs.Shape.{METADATA}
-use Rattle.opening.specs.Ways.{ninth-listed}
-use Rattle.opening.specs.NamesLeft.{isNothing}
-use Rattle.opening.specs.Calls.{placeFor, openCall, openOn}
-use Rattle.opening.specs.CallWays.{open-goes, on-shaped, at-place, in-last}
 use Rattle.ending.specs.Dropping.{dropAt}
 use Rattle.ending.specs.DropLaws.{drop-served}
 use Rattle.lives.specs.Life.{Reader}
 use Rattle.lives.specs.Told.{Window, Staging, idle, appending, cutting, Told, Page, pageIn, pageOf, page, nothing}
-use Rattle.lives.specs.Invariant.{Phys, Good, GoodIf, Dormant, erase, eraseW, build}
+use Rattle.lives.specs.Invariant.{Phys, erase, eraseW, build}
 use Rattle.seen.specs.Seen.{Seen, placeOf, countIn, liveIn, handleIn}
-use Rattle.seen.specs.Orderly.{Orderly}
-use Rattle.seen.specs.Proper.{Proper}
-use Rattle.seen.specs.Places.{found-low, found-name}
+use Rattle.seen.specs.Orderly.{Orderly, orderly-usable}
 use Rattle.seen.specs.Kinds.{writes-as, writes-open, cuts-as, cuts-open}
 use Rattle.seen.specs.Counts.{in-hit, in-miss, open-some}
-use Rattle.seen.specs.Closes.{find-transaction, orderly-usable}
 use Rattle.seen.specs.PutRooms.{put-there}
-use Rattle.seen.specs.Reopens.{shut-seen, shaped, known, opened-known, home, can-fill, open-serves}
+use Rattle.opened.specs.Reopens.{open-fits}
 use Rattle.promises.specs.Calls.{openTape, appendEntries, dropTransaction, step}
 use Rattle.promises.specs.Told.{Known, unknown}
 use Rattle.promises.specs.Standing.{Standing, running, formatted}
 use Rattle.promises.specs.Always.{no-session}
-use Rattle.promises.specs.Proper.{furnished, append-writes, truncate-cuts}
+use Rattle.promises.specs.Furnished.{furnished}
+use Rattle.promises.specs.CommitsServed.{append-writes, truncate-cuts}
 use Rattle.promises.specs.Runs.{stands-last}
 use Rattle.promises.specs.Promise.{ends, PutsFind, Closes, Reopens}
 use Rattle.promises.specs.Promise as P
+use Rattle.seen.specs.Transactions.{find-transaction}
 
 -- ---- a put
 
@@ -177,39 +165,6 @@ asleep : (s : List ℕ) (f : Found) → handleIn s f ≡ 0 → liveIn s f ≡ fa
 asleep s (At p) e = rw (eq-eqb (handleNumber s p) 0 e)
 asleep s Nothing e = refl
 
--- where no handle number remains, nothing before it is amiss
-module _ (d s n : List ℕ) (long : 0 < length n) (orderly : Orderly d s) (proper : Proper d s) (t : Told) (p : Phys) (good : Good t p) (seen : Seen d s n (build t p))
-    (shut : t .live ≡ false) (listed : t .listed ≡ true) (size-small : t .size ≤ 4096) (k entry cache start : ℕ) (writer : writes s k ≡ true)
-    (entry-some : 1 ≤ entry) (entry-small : entry ≤ 256) (len-whole : length (t .content) % entry ≡ 0) (start-whole : t .start % entry ≡ 0)
-    (cache-some : 1 ≤ cache) (cache-small : cache ≤ 4096) where
-  open-last : headOf s .«last_handle» ≡ 0xffff_ffff_ffff_ffff → openCall d s k n entry (t .size) cache start ≡ refusedAt TooLarge d s
-  open-last none-left =
-      let dormant : Dormant t p = subst (λ (b : Bool). GoodIf b t p) shut good in
-      let own = known d s n orderly (build t p) seen listed in
-      let house = home d s n orderly (build t p) seen listed proper in
-      let q = own .place in
-      let low = found-low s namesAt n q (own .found) in
-      let has = found-name s namesAt n q (own .found) in
-      let some-name = subst (λ (m : List ℕ). 0 < length m) (sym has) long in
-      let o : Opening
-      = record { entry = entry; «file_size» = t .size; cache = cache; listed = true; len = length (t .content); start = t .start } in
-      open-goes d s k n entry (t .size) cache start (orderly-usable d s orderly) writer
-      ∙ ap (λ (x : Opening). openOn d s n x (placeOf s n)) (opened-known d s n orderly (build t p) seen listed (writes-open s k writer) entry (t .size) cache start)
-      ∙ on-shaped d s n o (placeOf s n) 0
-      (shaped n o
-      (ap nameRule (sym has) ∙ proper .rule q low some-name)
-      (ap (λ (m : List ℕ). sameBytes m METADATA) (sym has) ∙ proper .unreserved q low some-name)
-      entry-some entry-small (dormant .pos listed) size-small cache-some cache-small len-whole start-whole)
-      ∙ at-place d s n o (placeOf s n) (shut-seen s (placeOf s n) (seen .live ∙ shut)) q (ap (placeFor s) (own .found))
-      ∙ in-last d s n o (findName d directories n) q (ninth-listed d s true (findName d directories n) refl) (ap isNothing (house .there))
-      (can-fill d s n orderly t p dormant seen (house .directory) (house .there) entry cache) none-left
-
-  reopened : codeOf (openCall d s k n entry (t .size) cache start .answer) ≢ 18 → codeOf (openCall d s k n entry (t .size) cache start .answer) ≡ 0
-  reopened remain =
-      ap codeOf
-      (open-serves d s n long orderly proper t p good seen shut listed size-small k entry cache start writer entry-some entry-small len-whole start-whole cache-some cache-small
-      (λ none-left. remain (ap (λ (x : Outcome). codeOf (x .answer)) (open-last none-left))))
-
 pub reopens : Reopens
 unfolding step
 reopens r n long t entry cache start here c b writer listed shut entry-some entry-small len-whole start-whole cache-some cache-small remain = by (stands-last r)
@@ -221,7 +176,7 @@ reopens r n long t entry cache start here c b writer listed shut entry-some entr
         let h = w .holds n long in
         let k = P.known r n .tape in
         let f = furnished r w in
-        reopened d s n long (w .orderly) (f .proper) k (h .phys) (h .good) (h .seen)
+        open-fits d s n long (w .orderly) (f .proper) k (h .phys) (h .good) (h .seen)
         (sym (h .seen .live) ∙ asleep s (placeOf s n) (h .handled .number ∙ shut)) listed (f .sized n long .0 listed) t entry cache start
         (told-writes d s n k (h .phys) (h .seen) t here c b writer)
         entry-some entry-small len-whole start-whole cache-some cache-small remain

@@ -1,7 +1,7 @@
 -- Without a served commit, format or store: the epoch stands, the last commit is what it was, and a window that is new since then began at this epoch and has a
 -- new number. Assumes nothing.
 use mathlib.Core.Path.{_≡_, refl, ap, _∙_}
-use mathlib.Core.Bool.{true, false, false≢true}
+use mathlib.Core.Bool.{true, false≢true}
 use mathlib.Core.Logic.{_⊎_, inl, inr, ⊎-elim}
 use mathlib.Core.List.{List·Memᴰ, List·Memᴰ·cases-cons}
 use Prim.Native.Nat.{ℕ, _≤_, _<_}
@@ -12,7 +12,7 @@ use Rattle.lives.specs.Life as L
 use Rattle.lives.specs.Told.{Window, Staging, idle, appending, cutting, Told, toldDrop, quiet}
 use Rattle.lives.specs.Told as T
 use Rattle.lives.specs.StepsDrop.{closed-mem}
-use Rattle.lives.specs.Waits.{stands}
+use Rattle.lives.specs.Waits.{unmoved}
 use Rattle.promises.specs.Told.{Known, lastAfter}
 
 pub record Since (k m : Known) : Type 0 where
@@ -44,7 +44,7 @@ dropped-windows k t (cutting m c) w =
     picked (λ (u : Told). List·Memᴰ w (u .windows) → List·Memᴰ w (t .windows)) (eqb k m) _ _ (λ e i. i) (λ e i. closed-mem k (t .windows) i)
 
 -- a begin gives a number that is new
-abbrev pub New : ℕ → L.Call → ℕ → Type 0
+abbrev pub New : ℕ → L.TapeCall → ℕ → Type 0
 New last L.restart v = Unit {0}
 New last L.reader v = last < v
 New last L.append v = last < v
@@ -57,7 +57,7 @@ New last (L.read t o n) v = Unit {0}
 New last (L.commit t) v = Unit {0}
 New last (L.drop′ t) v = Unit {0}
 
-numbered : (t : Told) (last : ℕ) (c : L.Call) (v : ℕ) → New last c v → quiet c (L.Done v) ≡ true → (w : Window) → List·Memᴰ w (T.told t c (L.Done v) .windows)
+numbered : (t : Told) (last : ℕ) (c : L.TapeCall) (v : ℕ) → New last c v → quiet c (L.Done v) ≡ true → (w : Window) → List·Memᴰ w (T.told t c (L.Done v) .windows)
     → List·Memᴰ w (t .windows) ⊎ (last < w .number)
 numbered t last L.restart v n q w i = absurd (false≢true q)
 numbered t last L.reader v n q w i = ⊎-elim (λ e. inr (omega (arith, ap (λ (x : Window). x .number) e))) inl (List·Memᴰ·cases-cons i)
@@ -71,7 +71,7 @@ numbered t last (L.read k o j) v n q w i = inl i
 numbered t last (L.commit k) v n q w i = absurd (false≢true q)
 numbered t last (L.drop′ k) v n q w i = inl (dropped-windows k t (t .writer) w i)
 
-rising : (last : ℕ) (c : L.Call) (v : ℕ) → New last c v → quiet c (L.Done v) ≡ true → last ≤ lastAfter last c v
+rising : (last : ℕ) (c : L.TapeCall) (v : ℕ) → New last c v → quiet c (L.Done v) ≡ true → last ≤ lastAfter last c v
 rising last L.restart v n q = absurd (false≢true q)
 rising last L.reader v n q = omega arith
 rising last L.append v n q = omega arith
@@ -85,11 +85,11 @@ rising last (L.commit k) v n q = absurd (false≢true q)
 rising last (L.drop′ k) v n q = omega arith
 
 -- a call of one tape
-pub since-told : (k : Known) (c : L.Call) (v handle entry : ℕ) → New (k .last) c v → quiet c (L.Done v) ≡ true
+pub since-told : (k : Known) (c : L.TapeCall) (v handle entry : ℕ) → New (k .last) c v → quiet c (L.Done v) ≡ true
     → Since k (record { tape = T.told (k .tape) c (L.Done v); handle = handle; entry = entry; last = lastAfter (k .last) c v })
 since-told k c v handle entry new q =
     let t = k .tape in
-    let s = stands t c (L.Done v) q in
+    let s = unmoved t c (L.Done v) q in
     record {
       epoch = s .epoch;
       cut = s .cut;

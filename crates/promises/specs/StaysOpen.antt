@@ -1,11 +1,11 @@
 -- Calls that leave a transaction open, for the tape of a name: what each of them keeps, all of them keep; and an open tape keeps its handle. Assumes nothing.
 use mathlib.Core.Path.{_≡_, refl, sym, ap, _∙_, subst}
 use mathlib.Core.Logic.{_≢_, _⊎_, inl, inr}
-use mathlib.Core.Bool.{Bool, true, false, cond, not, true≢false, false≢true}
+use mathlib.Core.Bool.{Bool, true, false, cond, true≢false, false≢true}
 use mathlib.Core.List.{List, [], _∷_}
 use Prim.Native.Nat.{ℕ, _+_, _*_, _<_}
 use native.Mathlib.Omega.{arith}
-use borrow.Author.Tests.{eq-eqb, eqb-true}
+use borrow.Author.Tests.{eq-eqb, eqb-true, not-true}
 use lib.Dec.{eqb}
 use lib.ListN.{length}
 use Rattle.octets.specs.Cases.{picked, decide, equal, and-both}
@@ -26,17 +26,17 @@ use Rattle.lives.specs.Invariant.{build, eraseW}
 use Rattle.seen.specs.Seen.{placeOf, handleIn}
 use Rattle.seen.specs.Begins.{seen-idle, reader-done}
 use Rattle.seen.specs.Handles.{handle-place, live-at}
-use Rattle.seen.specs.OpensServed.{open-served}
+use Rattle.opened.specs.OpensServed.{open-served}
 use Rattle.promises.specs.Calls.{Call, format, store, append, reader, truncate, openTape, appendEntries, shiftStart, truncateTape, dropEntries, popEntry, readEntries, readEntry, tapeLen, tapeStart, tapeExists, commit, dropTransaction, Fits, AllFit, perform, step, exchange, history}
-use Rattle.promises.specs.Told.{Known, unknown, Concern, apart, anew, opens, calls, concerns, isOurs, ifOurs, entriesLeft, tellAs, told, tell, OldSizes}
+use Rattle.promises.specs.Told.{Known, unknown, Concern, apart, anew, opens, calls, concerns, isOurs, ifOurs, entriesLeft, tellAs, tellOne, tell, OldSizes}
 use Rattle.promises.specs.Standing.{Lore, Running, Standing, running, formatted}
-use Rattle.promises.specs.Promise.{ends, known, isWriter, Served, keepsOpen}
-use Rattle.promises.specs.Steps.{stands, told-served, told-refused}
+use Rattle.promises.specs.Promise.{isWriter, AllServed, keepsOpen}
+use Rattle.promises.specs.Steps.{stands, tell-served, tell-refused}
 
 -- ---- a served call that leaves transaction t open, for one tape
 
 -- a reader gets the next number; a writer begins where none is open; t is neither committed nor dropped; no session ends. Openings are concerns of their own
-abbrev pub KeepsCall : ℕ → Known → ℕ → L.Call → Type 0
+abbrev pub KeepsCall : ℕ → Known → ℕ → L.TapeCall → Type 0
 KeepsCall t k v L.restart = ⊥
 KeepsCall t k v L.reader = v ≡ k .last + 1
 KeepsCall t k v L.append = k .tape .writer ≡ idle
@@ -55,10 +55,6 @@ KeepsTape t k v apart = Unit {0}
 KeepsTape t k v anew = ⊥
 KeepsTape t k v (opens u entry size cache start) = k .handle ≡ 0
 KeepsTape t k v (calls c) = KeepsCall t k v c
-
-not-so : (b : Bool) → not b ≡ true → b ≡ false
-not-so true e = absurd (false≢true e)
-not-so false e = refl
 
 erased-idle : (epoch : ℕ) (w : Staging) → eraseW epoch w ≡ L.idle → w ≡ idle
 erased-idle epoch idle e = refl
@@ -81,7 +77,7 @@ module _ (d s : List ℕ) (K : Lore) (r : Running (areas d s) K) (n : List ℕ) 
   numbered = let h = r .holds n long in h .seen .last ∙ h .last
 
   module _ (t : ℕ) where
-    ours-lasts : (v h : ℕ) (c : L.Call) → KeepsCall t (K n) v c → KeepsTape t (K n) v (ifOurs (K n) h c)
+    ours-lasts : (v h : ℕ) (c : L.TapeCall) → KeepsCall t (K n) v c → KeepsTape t (K n) v (ifOurs (K n) h c)
     ours-lasts v h c l = picked (KeepsTape t (K n) v) (isOurs (K n) h) (calls c) apart (λ e. l) (λ e. tt)
 
     open-lasts : (u : ℕ) (name : List ℕ) (entry size cache start : ℕ) → Fits (openTape u name entry size cache start)
@@ -115,34 +111,34 @@ module _ (d s : List ℕ) (K : Lore) (r : Running (areas d s) K) (n : List ℕ) 
     keeping (tapeLen u h) fits ok keeps = tt
     keeping (tapeStart u h) fits ok keeps = tt
     keeping (tapeExists u name) fits ok keeps = tt
-    keeping (commit u) fits ok keeps = not-so (eqb t u) keeps
-    keeping (dropTransaction u) fits ok keeps = not-so (eqb t u) keeps
+    keeping (commit u) fits ok keeps = not-true (eqb t u) keeps
+    keeping (dropTransaction u) fits ok keeps = not-true (eqb t u) keeps
 
 -- ---- what such calls keep, of the tape of a name, they all keep
 
 -- it is kept in a running session, and can't hold before one
-pub record Kept (t : ℕ) (n : List ℕ) (P : Known → Type 0) : Type 0 where
+pub record KeptOpen (t : ℕ) (n : List ℕ) (P : Known → Type 0) : Type 0 where
   pub begun : P unknown → ⊥
   pub keeps : (a : Areas) (K : Lore) → Running a K → P (K n) → (v : ℕ) (x : Concern) → KeepsTape t (K n) v x → P (tellAs (K n) v x)
 
-module _ (t : ℕ) (n : List ℕ) (long : 0 < length n) (P : Known → Type 0) (kept : Kept t n P) where
+module _ (t : ℕ) (n : List ℕ) (long : 0 < length n) (P : Known → Type 0) (kept : KeptOpen t n P) where
   -- one exchange
-  once : (c : Call) (a : Areas) (K : Lore) → Fits c → Standing a K → (step c a .code ≡ 0 → keepsOpen t c ≡ true) → P (K n) → P (told n (K n) (exchange c (step c a)))
+  once : (c : Call) (a : Areas) (K : Lore) → Fits c → Standing a K → (step c a .code ≡ 0 → keepsOpen t c ≡ true) → P (K n) → P (tellOne n (K n) (exchange c (step c a)))
   unfolding step
   once c a K fits (formatted f) stays p = absurd (kept .begun (subst P (f .untold n long) p))
   once c a K fits (running r) stays p =
       equal (step c a .code) 0
       (λ (ok : step c a .code ≡ 0).
-      subst P (sym (told-served n (K n) (exchange c (step c a)) ok))
+      subst P (sym (tell-served n (K n) (exchange c (step c a)) ok))
       (kept .keeps a K r p (step c a .value) (concerns n (K n) c (step c a .value)) (keeping (a .disk) (a .session) K r n long t c fits ok (stays ok))))
-      (λ (bad : step c a .code ≢ 0). subst P (sym (told-refused n (K n) (exchange c (step c a)) bad)) p)
+      (λ (bad : step c a .code ≢ 0). subst P (sym (tell-refused n (K n) (exchange c (step c a)) bad)) p)
 
-  pub lasts : (cs : List Call) (a : Areas) (K : Lore) → AllFit cs → ((m : List ℕ) → OldSizes m (history cs a) (K m)) → Standing a K → Served (keepsOpen t) (history cs a)
+  pub lasts : (cs : List Call) (a : Areas) (K : Lore) → AllFit cs → ((m : List ℕ) → OldSizes m (history cs a) (K m)) → Standing a K → AllServed (keepsOpen t) (history cs a)
       → P (K n) → P (tell n (history cs a) (K n))
   unfolding history tell
   lasts [] a K fit old st stays p = p
   lasts (c ∷ cs) a K fit old st stays p =
-      lasts cs (step c a .areas) (λ m. told m (K m) (exchange c (step c a))) (fit .1) (λ m. old m .1) (stands c a K (fit .0) (λ m. old m .0) st) (stays .1)
+      lasts cs (step c a .areas) (λ m. tellOne m (K m) (exchange c (step c a))) (fit .1) (λ m. old m .1) (stands c a K (fit .0) (λ m. old m .0) st) (stays .1)
       (once c a K (fit .0) st (stays .0) p)
 
 -- ---- the handle of an open tape
@@ -163,7 +159,7 @@ live-commit u tape idle live = live
 live-commit u tape (appending m h c s) live = picked (λ (y : Told). y .live ≡ true) (eqb u m) _ _ (λ e. live) (λ e. live)
 live-commit u tape (cutting m c) live = picked (λ (y : Told). y .live ≡ true) (eqb u m) _ _ (λ e. live) (λ e. live)
 
-live-call : (t : ℕ) (k : Known) (v : ℕ) (c : L.Call) → KeepsCall t k v c → k .tape .live ≡ true → (k .tape .listed ≡ true) ⊎ (isWriter t (k .tape .writer) ≡ true)
+live-call : (t : ℕ) (k : Known) (v : ℕ) (c : L.TapeCall) → KeepsCall t k v c → k .tape .live ≡ true → (k .tape .listed ≡ true) ⊎ (isWriter t (k .tape .writer) ≡ true)
     → T.told (k .tape) c (L.Done v) .live ≡ true
 live-call t k v L.restart l live known = absurd l
 live-call t k v L.reader l live known = live

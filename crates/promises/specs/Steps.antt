@@ -17,13 +17,13 @@ use Rattle.rolling_tape.specs.Removal.{Areas, areas}
 use Rattle.beginning.specs.Transactions.{After}
 use Rattle.seen.specs.Unbegun.{append-unbegun, truncate-unbegun, reader-unbegun, commit-unbegun, drop-transaction-unbegun, open-unbegun, exists-unbegun, put-unbegun, shift-unbegun, cut-unbegun, drop-unbegun, len-unbegun, start-unbegun, pop-unbegun, read-unbegun, entry-unbegun}
 use Rattle.promises.specs.Calls.{Call, format, store, append, reader, truncate, openTape, appendEntries, shiftStart, truncateTape, dropEntries, popEntry, readEntries, readEntry, tapeLen, tapeStart, tapeExists, commit, dropTransaction, Fits, perform, step, Exchange, exchange}
-use Rattle.promises.specs.Told.{Known, concerns, oldSize, tellAs, told}
+use Rattle.promises.specs.Told.{Known, concerns, oldSize, tellAs, tellOne}
 use Rattle.promises.specs.Refused.{areas-leave}
 use Rattle.promises.specs.Standing.{Lore, Running, Formatted, Standing, running, formatted, standing-same}
 use Rattle.promises.specs.Transactions.{reader-runs, append-runs, truncate-runs}
 use Rattle.promises.specs.Sessions.{store-runs, store-begins, format-runs}
 use Rattle.promises.specs.Opening.{open-runs}
-use Rattle.promises.specs.Handles.{shift-runs, cut-runs, drop-runs, pop-runs, put-runs}
+use Rattle.promises.specs.Handles.{shift-runs, cut-runs, drop-entries-runs, pop-runs, put-runs}
 use Rattle.promises.specs.Commits.{commit-runs}
 use Rattle.promises.specs.Drops as Dropped
 
@@ -46,7 +46,7 @@ module _ (d s : List ℕ) (K : Lore) where
   served-running r (appendEntries t h bs) fits ok old = running (put-runs d s t h K r bs (perform (appendEntries t h bs) d s .value) (fits .1 .1) ok)
   served-running r (shiftStart t h i) fits ok old = running (shift-runs d s t h K r i (perform (shiftStart t h i) d s .value) ok)
   served-running r (truncateTape t h i) fits ok old = running (cut-runs d s t h K r i (perform (truncateTape t h i) d s .value) ok)
-  served-running r (dropEntries t h i) fits ok old = running (drop-runs d s t h K r i (perform (dropEntries t h i) d s .value) ok)
+  served-running r (dropEntries t h i) fits ok old = running (drop-entries-runs d s t h K r i (perform (dropEntries t h i) d s .value) ok)
   served-running r (popEntry t h buffer) fits ok old = running (pop-runs d s t h K r buffer ok)
   served-running r (readEntries t h i n buffer) fits ok old = running r
   served-running r (readEntry t h i buffer) fits ok old = running r
@@ -54,7 +54,7 @@ module _ (d s : List ℕ) (K : Lore) where
   served-running r (tapeStart t h) fits ok old = running r
   served-running r (tapeExists t name) fits ok old = running r
   served-running r (commit t) fits ok old = running (commit-runs d s t K r ok (perform (commit t) d s .value))
-  served-running r (dropTransaction t) fits ok old = running (Dropped.drop-runs d s t K r ok (perform (dropTransaction t) d s .value))
+  served-running r (dropTransaction t) fits ok old = running (Dropped.drop-transaction-runs d s t K r ok (perform (dropTransaction t) d s .value))
 
   -- before a session was begun a format and a store alone are served
   no-answer : {P : Type 0} (a : Answer) → codeOf a ≡ 0 → a ≡ Refused Unusable → P
@@ -89,20 +89,20 @@ module _ (d s : List ℕ) (K : Lore) where
 
 -- ---- one exchange
 
-pub told-refused : (n : List ℕ) (k : Known) (x : Exchange) → x .code ≢ 0 → told n k x ≡ k
-told-refused n k x no-zero = rw (ne-eqb (x .code) 0 no-zero)
+pub tell-refused : (n : List ℕ) (k : Known) (x : Exchange) → x .code ≢ 0 → tellOne n k x ≡ k
+tell-refused n k x no-zero = rw (ne-eqb (x .code) 0 no-zero)
 
-pub told-served : (n : List ℕ) (k : Known) (x : Exchange) → x .code ≡ 0 → told n k x ≡ tellAs k (x .value) (concerns n k (x .call) (x .value))
-told-served n k x zero = rw (eq-eqb (x .code) 0 zero)
+pub tell-served : (n : List ℕ) (k : Known) (x : Exchange) → x .code ≡ 0 → tellOne n k x ≡ tellAs k (x .value) (concerns n k (x .call) (x .value))
+tell-served n k x zero = rw (eq-eqb (x .code) 0 zero)
 
 pub stands : (c : Call) (a : Areas) (K : Lore) → Fits c → ((n : List ℕ) → step c a .code ≡ 0 → oldSize (K n) (concerns n (K n) c (step c a .value))) → Standing a K
-    → Standing (step c a .areas) (λ n. told n (K n) (exchange c (step c a)))
+    → Standing (step c a .areas) (λ n. tellOne n (K n) (exchange c (step c a)))
 unfolding step
 stands c a K fits old st =
     equal (step c a .code) 0
     (λ (ok : step c a .code ≡ 0).
-    standing-same (step c a .areas) (step c a .areas) (Then (a .disk) (a .session) K c) (λ n. told n (K n) (exchange c (step c a))) refl
-    (λ n. told-served n (K n) (exchange c (step c a)) ok)
+    standing-same (step c a .areas) (step c a .areas) (Then (a .disk) (a .session) K c) (λ n. tellOne n (K n) (exchange c (step c a))) refl
+    (λ n. tell-served n (K n) (exchange c (step c a)) ok)
     (served-call (a .disk) (a .session) K st c fits ok (λ n. old n ok)))
     (λ (bad : step c a .code ≢ 0).
-    standing-same a (step c a .areas) K (λ n. told n (K n) (exchange c (step c a))) (areas-leave c a bad) (λ n. told-refused n (K n) (exchange c (step c a)) bad) st)
+    standing-same a (step c a .areas) K (λ n. tellOne n (K n) (exchange c (step c a))) (areas-leave c a bad) (λ n. tell-refused n (K n) (exchange c (step c a)) bad) st)

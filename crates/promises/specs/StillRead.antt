@@ -35,7 +35,7 @@ use Rattle.seen.specs.Proper.{Proper}
 use Rattle.seen.specs.ProperStarts.{store-proper}
 use Rattle.seen.specs.ProperLaws.{append-proper}
 use Rattle.seen.specs.Begins.{Begins, begins-rows}
-use Rattle.seen.specs.Reopens.{store-serves, append-after-store, open-serves}
+use Rattle.opened.specs.Reopens.{store-serves, append-after-store, open-serves}
 use Rattle.promises.specs.Calls.{readEntries, result, step}
 use Rattle.promises.specs.Told.{Known, unknown, Concern, apart, opens, tellAs, calls, oldSize}
 use Rattle.promises.specs.Standing.{Lore, Running, Standing, running, formatted}
@@ -45,7 +45,7 @@ use Rattle.promises.specs.Opening.{open-runs}
 use Rattle.promises.specs.Promise.{ends, known, StillRead}
 use Rattle.promises.specs.Runs.{stands-last}
 use Rattle.promises.specs.Reading.{read-running}
-use Rattle.promises.specs.Proper.{furnished}
+use Rattle.promises.specs.Furnished.{furnished}
 
 -- ---- the append behind the store
 
@@ -64,7 +64,7 @@ begun-writes s u k b e = rw (b .own, eq-eqb (headOf s .«last_transaction» + 1)
 
 -- the append's page of a tape that is listed, once it is open: what is committed
 page-then : (t : Told) (v x size cache start : ℕ) → v ≡ 1 → t .listed ≡ true
-    → page 1 (T.served (T.served (T.served t L.restart 0) L.append v) (L.open′ 1 size cache start []) x) ≡ some (record { here = true; start = t .start; content = t .content })
+    → page 1 (T.toldDone (T.toldDone (T.toldDone t L.restart 0) L.append v) (L.open′ 1 size cache start []) x) ≡ some (record { here = true; start = t .start; content = t .content })
 page-then t v x size cache start e listed = rw (e, listed)
 
 -- ---- all of a page read

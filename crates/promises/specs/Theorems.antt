@@ -3,7 +3,7 @@ use Rattle.promises.specs.Promise.{Promised}
 use Rattle.promises.specs.Reading.{reads}
 use Rattle.promises.specs.Waiting.{waits, append-waits}
 use Rattle.promises.specs.Rooms.{commits}
-use Rattle.promises.specs.Proper.{commits-served}
+use Rattle.promises.specs.CommitsServed.{commits-served}
 use Rattle.promises.specs.Others.{reads-one, pops}
 use Rattle.promises.specs.OneElse.{reads-one-else, pops-none, lengths}
 use Rattle.promises.specs.Outside.{reads-else}

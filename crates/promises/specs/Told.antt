@@ -34,9 +34,9 @@ isOurs k h = not (eqb h 0) && eqb h (k .handle)
 pub data Concern : Type 0 where
   apart anew : Concern
   opens : (t entry size cache start : ℕ) → Concern
-  calls : L.Call → Concern
+  calls : L.TapeCall → Concern
 
-abbrev pub ifOurs : Known → ℕ → L.Call → Concern
+abbrev pub ifOurs : Known → ℕ → L.TapeCall → Concern
 ifOurs k h c = cond (isOurs k h) (calls c) apart
 
 -- the length that the open writer has staged, in bytes
@@ -73,7 +73,7 @@ concerns n k (dropTransaction t) v = calls (L.drop′ t)
 -- ---- what is told then
 
 -- the last transaction's number: begins give one, a new session starts again
-abbrev pub lastAfter : ℕ → L.Call → ℕ → ℕ
+abbrev pub lastAfter : ℕ → L.TapeCall → ℕ → ℕ
 lastAfter last L.restart v = 0
 lastAfter last L.reader v = v
 lastAfter last L.append v = v
@@ -98,12 +98,12 @@ tellAs k v (opens t entry size cache start) =
 tellAs k v (calls c) = afterwards k (T.told (k .tape) c (Done v)) (lastAfter (k .last) c v)
 
 -- an exchange, of the tape named n; a refused call says nothing
-abbrev pub told : List ℕ → Known → Exchange → Known
-told n k x = cond (eqb (x .code) 0) (tellAs k (x .value) (concerns n k (x .call) (x .value))) k
+abbrev pub tellOne : List ℕ → Known → Exchange → Known
+tellOne n k x = cond (eqb (x .code) 0) (tellAs k (x .value) (concerns n k (x .call) (x .value))) k
 
 unfoldable pub tell : List ℕ → List Exchange → Known → Known
 tell n [] k = k
-tell n (x ∷ xs) k = tell n xs (told n k x)
+tell n (x ∷ xs) k = tell n xs (tellOne n k x)
 
 -- ---- what demand 3 asks of the calls: "each tape reopened with its old file size"
 
@@ -116,4 +116,4 @@ oldSize k (calls c) = Unit {0}
 
 abbrev pub OldSizes : List ℕ → List Exchange → Known → Type 0
 OldSizes n [] k = Unit {0}
-OldSizes n (x ∷ xs) k = (x .code ≡ 0 → oldSize k (concerns n k (x .call) (x .value))) × OldSizes n xs (told n k x)
+OldSizes n (x ∷ xs) k = (x .code ≡ 0 → oldSize k (concerns n k (x .call) (x .value))) × OldSizes n xs (tellOne n k x)

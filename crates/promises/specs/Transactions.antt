@@ -1,7 +1,7 @@
--- Transactions begun, and readers and truncates dropped, in a running session. Assumes nothing.
+-- Transactions begun, in a running session. Assumes nothing.
 use mathlib.Core.Path.{_≡_, refl, sym, ap, _∙_}
-use mathlib.Core.Logic.{_≢_, inl}
-use mathlib.Core.Bool.{true, false, true≢false}
+use mathlib.Core.Logic.{inl}
+use mathlib.Core.Bool.{false, true≢false}
 use mathlib.Core.List.{List}
 use Prim.Native.Nat.{ℕ, _+_}
 use native.Mathlib.Omega.{arith}
@@ -27,14 +27,14 @@ use Rattle.promises.specs.Holds.{moved}
 use Rattle.promises.specs.Standing.{Lore, Running}
 
 -- a call for all tapes, whose own answer is the same number here and there
-pub record Begun (d s u : List ℕ) (c : L.Call) (v : ℕ) : Type 0 where
+pub record Begun (d s u : List ℕ) (c : L.TapeCall) (v : ℕ) : Type 0 where
   pub orderly : Orderly d u
   pub starts : CutStarts u
   pub seen : (n : List ℕ) (st : L.Store) → Seen d s n st → Seen d u n (L.step c st .store)
   pub answer : (n : List ℕ) (st : L.Store) → Seen d s n st → L.step c st .answer ≡ L.Done v
   pub handled : (n : List ℕ) (handle entry : ℕ) → Handled s n handle entry → Handled u n handle entry
 
-pub begun-runs : (d s u : List ℕ) (K : Lore) (c : L.Call) (v : ℕ) → Running (areas d s) K → Begun d s u c v → Running (areas d u) (λ n. tellAs (K n) v (calls c))
+pub begun-runs : (d s u : List ℕ) (K : Lore) (c : L.TapeCall) (v : ℕ) → Running (areas d s) K → Begun d s u c v → Running (areas d u) (λ n. tellAs (K n) v (calls c))
 begun-runs d s u K c v r b =
     record {
       orderly = b .orderly;

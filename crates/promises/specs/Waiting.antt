@@ -28,18 +28,17 @@ use Rattle.lives.specs.Told.{Window, idle, Told, nothing, before, quiet}
 use Rattle.lives.specs.Invariant.{erase, eraseW, build}
 use Rattle.lives.specs.Waits.{Asked, busy, wait, go, asked, told-wait, let-in, kept-out, before-is, is-before, none-before, some-before}
 use Rattle.seen.specs.Seen.{placeOf, countIn}
-use Rattle.seen.specs.Orderly.{Orderly}
+use Rattle.seen.specs.Orderly.{Orderly, orderly-usable}
 use Rattle.seen.specs.Counts.{in-member, open-some}
 use Rattle.seen.specs.Begins.{nextDone, reader-done, append-done, truncate-done, append-told, waiting-same}
-use Rattle.seen.specs.Closes.{orderly-usable}
 use Rattle.seen.specs.Unbegun.{append-unbegun}
 use Rattle.seen.specs.Waits.{wait-told, idle-seen, append-serves}
 use Rattle.promises.specs.Calls.{Call, format, store, append, reader, truncate, openTape, appendEntries, shiftStart, truncateTape, dropEntries, popEntry, readEntries, readEntry, tapeLen, tapeStart, tapeExists, commit, dropTransaction, AllFit, perform, step, exchange, history}
-use Rattle.promises.specs.Told.{Known, unknown, Concern, apart, opens, calls, isOurs, ifOurs, entriesLeft, concerns, tellAs, told, tell, OldSizes}
+use Rattle.promises.specs.Told.{Known, unknown, Concern, apart, opens, calls, isOurs, ifOurs, entriesLeft, concerns, tellAs, tellOne, tell, OldSizes}
 use Rattle.promises.specs.Holds.{Holds}
 use Rattle.promises.specs.Standing.{Lore, Running, Formatted, Standing, running, formatted}
 use Rattle.promises.specs.Since.{Since, New, since-same, since-then, since-told}
-use Rattle.promises.specs.Steps.{told-refused, told-served, stands}
+use Rattle.promises.specs.Steps.{tell-refused, tell-served, stands}
 use Rattle.promises.specs.Runs.{stands-last, stands-then}
 use Rattle.promises.specs.Promise.{Run, ends, known, Further, endsThen, knownThen, isOpen, isQuiet, Quiet, earlier, Waiting, Waits, AppendWaits}
 
@@ -68,7 +67,7 @@ module _ (d s : List ℕ) (K : Lore) (n : List ℕ) (long : 0 < length n) where
   newer st x e = omega (arith, last-given st, ap valueOf e)
 
   -- a call that goes to this tape, if the handle is its own
-  since-ours : (v h : ℕ) (c : L.Call) → New (K n .last) c v → quiet c (L.Done v) ≡ true → Since (K n) (tellAs (K n) v (ifOurs (K n) h c))
+  since-ours : (v h : ℕ) (c : L.TapeCall) → New (K n .last) c v → quiet c (L.Done v) ≡ true → Since (K n) (tellAs (K n) v (ifOurs (K n) h c))
   since-ours v h c new q =
       picked (λ (x : Concern). Since (K n) (tellAs (K n) v x)) (isOurs (K n) h) (calls c) apart (λ e. since-told (K n) c v _ _ new q) (λ e. since-same (K n))
 
@@ -103,19 +102,19 @@ module _ (d s : List ℕ) (K : Lore) (n : List ℕ) (long : 0 < length n) where
   since-served st (dropTransaction t) q ok = since-told (K n) (L.drop′ t) (perform (dropTransaction t) d s .value) _ _ tt refl
 
 since-call : (c : Call) (a : Areas) (K : Lore) → Standing a K → (step c a .code ≡ 0 → isQuiet c ≡ true) → (n : List ℕ) → 0 < length n
-    → Since (K n) (told n (K n) (exchange c (step c a)))
+    → Since (K n) (tellOne n (K n) (exchange c (step c a)))
 unfolding step
 since-call c a K st q n long =
     equal (step c a .code) 0
-    (λ (ok : step c a .code ≡ 0). rw (told-served n (K n) (exchange c (step c a)) ok) (since-served (a .disk) (a .session) K n long st c (q ok) ok))
-    (λ (bad : step c a .code ≢ 0). rw (told-refused n (K n) (exchange c (step c a)) bad) (since-same (K n)))
+    (λ (ok : step c a .code ≡ 0). rw (tell-served n (K n) (exchange c (step c a)) ok) (since-served (a .disk) (a .session) K n long st c (q ok) ok))
+    (λ (bad : step c a .code ≢ 0). rw (tell-refused n (K n) (exchange c (step c a)) bad) (since-same (K n)))
 
 since-calls : (cs : List Call) (a : Areas) (K : Lore) → AllFit cs → ((n : List ℕ) → OldSizes n (history cs a) (K n)) → Standing a K → Quiet (history cs a)
     → (n : List ℕ) → 0 < length n → Since (K n) (tell n (history cs a) (K n))
 unfolding history tell
 since-calls [] a K fit old st q n long = since-same (K n)
 since-calls (c ∷ cs) a K fit old st q n long =
-    let M : Lore = λ m. told m (K m) (exchange c (step c a)) in
+    let M : Lore = λ m. tellOne m (K m) (exchange c (step c a)) in
     since-then (K n) (M n) _ (since-call c a K st (q .0) n long)
     (since-calls cs (step c a .areas) M (fit .1) (λ m. old m .1) (stands c a K (fit .0) (λ m. old m .0) st) (q .1) n long)
 
@@ -331,7 +330,7 @@ module _ (r : Run) (n : List ℕ) (long : 0 < length n) where
         many = sym many;
         more = more;
         waits = λ f q x i e. waits-then g cut f q x i e (stands-then r f);
-        served = λ f q shut idle more. served-then g cut f q shut idle more (stands-then r f);
+        goes-in = λ f q shut idle more. served-then g cut f q shut idle more (stands-then r f);
       }
 
   waits-known : known r n .tape .writer ≡ idle → known r n .tape .cut ≡ true → 0 < length (earlier r n) → Standing (ends r) (known r)

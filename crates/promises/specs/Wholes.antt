@@ -30,8 +30,8 @@ use Rattle.seen.specs.Seen.{placeOf, liveIn, Handled}
 use Rattle.seen.specs.Handles.{handle-own}
 use Rattle.seen.specs.Touching.{stagedLen}
 use Rattle.seen.specs.Puts.{put-found}
-use Rattle.seen.specs.OpensServed.{open-served}
-use Rattle.seen.specs.OpensSeen.{own-seen}
+use Rattle.opened.specs.OpensServed.{open-served}
+use Rattle.opened.specs.OpensSeen.{own-seen}
 use Rattle.promises.specs.Calls.{Call, format, store, append, reader, truncate, openTape, appendEntries, shiftStart, truncateTape, dropEntries, popEntry, readEntries, readEntry, tapeLen, tapeStart, tapeExists, commit, dropTransaction, Fits, perform}
 use Rattle.promises.specs.Told.{Known, Concern, apart, calls, opens, isOurs, ifOurs, stagedLength, entriesLeft, concerns, oldSize, tellAs}
 use Rattle.promises.specs.Holds.{Holds}
@@ -99,7 +99,7 @@ module _ (e : ℕ) where
       (λ q. record { entry-some = whole .entry-some; content = whole .content; staged = whole .staged })
 
   -- bytes put and lengths cut to are whole entries; openings are concerns of their own
-  abbrev Entire : L.Call → Type 0
+  abbrev Entire : L.TapeCall → Type 0
   Entire L.restart = Unit {0}
   Entire L.reader = Unit {0}
   Entire L.append = Unit {0}
@@ -112,7 +112,7 @@ module _ (e : ℕ) where
   Entire (L.commit k) = Unit {0}
   Entire (L.drop′ k) = Unit {0}
 
-  told-whole : (t : Told) (c : L.Call) (v : ℕ) → Entire c → Whole e t → Whole e (T.told t c (L.Done v))
+  told-whole : (t : Told) (c : L.TapeCall) (v : ℕ) → Entire c → Whole e t → Whole e (T.told t c (L.Done v))
   told-whole t L.restart v entire whole = record { entry-some = whole .entry-some; content = whole .content; staged = dvd-zero e }
   told-whole t L.reader v entire whole = record { entry-some = whole .entry-some; content = whole .content; staged = whole .staged }
   told-whole t L.append v entire whole = record { entry-some = whole .entry-some; content = whole .content; staged = whole .content }
@@ -129,13 +129,13 @@ module _ (e : ℕ) where
   told-whole t (L.drop′ k) v entire whole = drop-whole k t whole (t .writer)
 
 -- a handle is kept or gone, and the entry size is kept
-calls-whole : (k : Known) (v : ℕ) (c : L.Call) → Entire (k .entry) c → WholeKnown k → WholeKnown (tellAs k v (calls c))
+calls-whole : (k : Known) (v : ℕ) (c : L.TapeCall) → Entire (k .entry) c → WholeKnown k → WholeKnown (tellAs k v (calls c))
 calls-whole k v c entire whole more =
     let live = T.told (k .tape) c (L.Done v) .live in
     let was : k .handle ≢ 0 = λ (z : k .handle ≡ 0). more (picked (λ (x : ℕ). x ≡ 0) live (k .handle) 0 (λ q. z) (λ q. refl)) in
     told-whole (k .entry) (k .tape) c v entire (whole was)
 
-ours-whole : (k : Known) (h v : ℕ) (c : L.Call) → (h ≡ k .handle → Entire (k .entry) c) → WholeKnown k → WholeKnown (tellAs k v (ifOurs k h c))
+ours-whole : (k : Known) (h v : ℕ) (c : L.TapeCall) → (h ≡ k .handle → Entire (k .entry) c) → WholeKnown k → WholeKnown (tellAs k v (ifOurs k h c))
 ours-whole k h v c entire whole =
     picked (λ (x : Concern). WholeKnown (tellAs k v x)) (isOurs k h) (calls c) apart
     (λ q. calls-whole k v c (entire (eqb-true h (k .handle) (and-r (not (eqb h 0)) (eqb h (k .handle)) q))) whole)

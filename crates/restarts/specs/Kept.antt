@@ -29,13 +29,12 @@ use Rattle.beginning.specs.Laws.{refusal-some, append-refused, truncate-refused
 use Rattle.beginning.specs.Sessions.{storeCall}
 use Rattle.beginning.specs.StoreLaws.{store-refused}
 use Rattle.beginning.specs.Transactions.{After, usable}
-use Rattle.beginning.specs.Ways.{usable-begun}
+use Rattle.beginning.specs.Ways.{usable-begun, usable-disk}
 use Rattle.staging.specs.Cutting.{cutCall, dropCall}
 use Rattle.staging.specs.Shifting.{shiftCall}
 use Rattle.appending.specs.Calls.{putCall}
 use Rattle.entries.specs.Popping.{popCall}
 use Rattle.answers.specs.Outcome.{Outcome}
-use Rattle.opening.specs.CallWays.{usable-disk}
 use Rattle.opening.specs.Calls.{cachedFrom, cachedBytes, nextHandle, rowed, openWith, openNow, openCall}
 use Rattle.opening.specs.Laws.{opened, open-cases, opens-shaped}
 use Rattle.opening.specs.PlacingLaws.{named, head-named, length-named}

@@ -1,15 +1,13 @@
--- A run of bytes written in two parts is written whole: first a byte and then the rest, and so two runs, one behind the other; and the same for the
--- files that are covered. Assumes nothing.
+-- A run of bytes written in two parts is written whole: first a byte and then the rest, and so two runs, one behind the other. Assumes nothing.
 use mathlib.Core.Path.{_≡_, refl, sym, ap, _∙_}
-use mathlib.Core.Logic.{_≢_}
 use mathlib.Core.List.{List, [], _∷_, _++_}
 use Prim.Native.Nat.{ℕ, zero, suc, _+_, _-_, _≤_, _<_, _^_, max}
 use native.Mathlib.Nat.{add-assoc, add-zero, zero-add}
 use native.Mathlib.Omega.{arith}
-use lib.ListN.{length, set, take, drop, replicate, length-append}
-use lib.Seq.{set-set, set-comm, length-take-le}
+use lib.ListN.{length, take, drop, replicate, length-append}
+use lib.Seq.{length-take-le}
 use Rattle.octets.specs.Bytes.{put, put-append}
-use Rattle.octets.specs.Number.{le, putNum, length-le}
+use Rattle.octets.specs.Number.{putNum, putNum-over}
 use Rattle.octets.specs.First.{first, first-same}
 use Rattle.octets.specs.Cases.{order}
 use Rattle.octets.specs.declared.Found.{Found}
@@ -24,47 +22,11 @@ use Rattle.rolling_tape.specs.Removal.{Areas}
 use Rattle.rolling_tape.specs.Writing.{makeTracked, covered, writePiece, writeRun}
 use Rattle.rolling_tape.specs.WritingWays.{write-found, write-nothing, sound-writePiece, run-none, run-some}
 
--- ---- two puts into an area
-
-set-put : (s : List ℕ) (i v at : ℕ) (bs : List ℕ) → (at ≤ i → at + length bs ≤ i) → put (set s i v) at bs ≡ set (put s at bs) i v
-unfolding put
-set-put s i v at [] h = refl
-set-put s i v at (b ∷ bs) h =
-    let e : i ≢ at = λ q. omega (arith, h (omega arith)) in
-    ap (λ (l : List ℕ). put l (at + 1) bs) (set-comm s i at v b e)
-    ∙ set-put (set s at b) i v (at + 1) bs (λ l. omega (arith, h (omega arith)))
-
--- apart from each other, they may change places
-put-swap : (s : List ℕ) (a : ℕ) (xs : List ℕ) (b : ℕ) (ys : List ℕ) → a + length xs ≤ b → put (put s a xs) b ys ≡ put (put s b ys) a xs
-unfolding put
-put-swap s a [] b ys h = refl
-put-swap s a (x ∷ xs) b ys h =
-    put-swap (set s a x) (a + 1) xs b ys (omega arith)
-    ∙ ap (λ (l : List ℕ). put l (a + 1) xs) (set-put s a x b ys (λ q. absurd (omega arith)))
-
--- at the same place, the later one stands
-put-over : (s : List ℕ) (at : ℕ) (xs ys : List ℕ) → length xs ≡ length ys → put (put s at xs) at ys ≡ put s at ys
-unfolding put
-put-over s at [] [] e = refl
-put-over s at [] (y ∷ ys) e = absurd (omega arith)
-put-over s at (x ∷ xs) [] e = absurd (omega arith)
-put-over s at (x ∷ xs) (y ∷ ys) e =
-    ap (λ (l : List ℕ). put l (at + 1) ys)
-    (sym (set-put (set s at x) at y (at + 1) xs (λ q. absurd (omega arith))) ∙ ap (λ (l : List ℕ). put l (at + 1) xs) (set-set s at x y))
-    ∙ put-over (set s at y) (at + 1) xs ys (omega arith)
+-- ---- a write into a slot
 
 put-none : (s : List ℕ) (at k : ℕ) → k ≡ 0 → put s at (replicate k 0) ≡ s
 unfolding put
 put-none s at k e = rw e
-
--- a number put twice, bytes behind it between
-num-over : (s : List ℕ) (at v w b : ℕ) (bs : List ℕ) → at + 8 ≤ b → putNum 8 (put (putNum 8 s at v) b bs) at w ≡ putNum 8 (put s b bs) at w
-unfolding putNum
-num-over s at v w b bs h =
-    ap (λ (l : List ℕ). put l at (le 8 w)) (put-swap s at (le 8 v) b bs (rw length-le h))
-    ∙ put-over (put s b bs) at (le 8 v) (le 8 w) (length-le 8 v ∙ sym (length-le 8 w))
-
--- ---- a write into a slot
 
 -- the first part fills the hole, so the second finds none
 pub writeAt-append : (s : List ℕ) (i at : ℕ) (a b : List ℕ) → i < 64 → entryAt i + 24 ≤ length s → len s i < 256 ^ 8 → at + length a < 256 ^ 8
@@ -82,7 +44,7 @@ writeAt-append s i at a b low room f g =
     let size : max n (at + length (a ++ b)) ≡ w = omega (arith, length-append a b) in
     ap (λ (v : ℕ). putNum 8 (put z (dataAt i + at) (a ++ b)) e v) size
     ∙ ap (λ (l : List ℕ). putNum 8 l e w) (put-append z (dataAt i + at) a b ∙ ap (λ (p : ℕ). put u p b) (add-assoc (dataAt i) at (length a)))
-    ∙ sym (num-over u e (max n (at + length a)) w k b (omega arith))
+    ∙ sym (putNum-over 8 u e (max n (at + length a)) w k b (omega arith))
     ∙ ap (λ (l : List ℕ). putNum 8 (put l k b) e w) (sym (put-none t (dataAt i + len t i) (at + length a - len t i) (omega arith)))
 
 -- the search goes by owners and numbers, which a write keeps
@@ -179,8 +141,6 @@ writeRun-cons d place fs o x bs sound z small = cons-run place fs z small d o x 
 pub writeRun-append : (d : List ℕ) (place fs o : ℕ) (a b : List ℕ) → Sound d → 0 < fs → fs ≤ 4096
     → writeRun d place fs o (a ++ b) ≡ writeRun (writeRun d place fs o a) place fs (o + length a) b
 writeRun-append d place fs o a b sound z small = append-run place fs z small a b d o sound
-
--- ---- the files
 
 pub covered-append : (a : Areas) (place n j k : ℕ) → covered a place n (j + k) ≡ covered (covered a place n j) place (n + j) k
 unfolding covered

@@ -10,7 +10,7 @@ use native.Mathlib.Omega.{arith}
 use borrow.Author.Tests.{ne-eqb, eqb-true}
 use lib.Dec.{eqb, ltb, leb}
 use Rattle.octets.specs.Cases.{decide, and-l, and-r}
-use Rattle.octets.specs.First.{first, first-hits}
+use Rattle.octets.specs.First.{first-hits}
 use Rattle.octets.specs.declared.Found.{Found}
 use Rattle.octets.specs.declared.Found.the-variants.{At, Nothing}
 use Rattle.components.specs.Files.{File, Files, gone, untracked, markBelow, clearFrom, track}

@@ -2,6 +2,7 @@ pub mod Tracking
 pub mod TrackingLaws
 pub mod Removal
 pub mod RemovalLaws
+pub mod Kept
 pub mod Writing
 pub mod WritingWays
 pub mod WritingLaws

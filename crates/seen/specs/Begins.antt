@@ -37,10 +37,10 @@ use Rattle.lives.specs.Life as L
 use Rattle.seen.specs.Seen.{placeOf, shown, viewIn, stagedIn, readerIn, writerAs, writerIn, countOpen, Seen, Handled}
 use Rattle.seen.specs.Orderly.{Orderly}
 use Rattle.seen.specs.Places.{found-low}
-use Rattle.seen.specs.Rows.{open-row, untouched-unwritten, untouched-rows, count-rows, view-in, touched-in, staged-in, touched-as}
+use Rattle.seen.specs.Rows.{open-row, untouched-unwritten, untouched-rows, count-rows, view-in, touched-in, staged-in, touched-as, number-row}
 use Rattle.seen.specs.Kinds.{append-open}
 use Rattle.seen.specs.Counts.{Others, open-more, in-cons, seen-waits}
-use Rattle.seen.specs.Leaving.{Leaves, handle-number, leaves-is, head-is, view-is, transaction-is, staged-is, left-handled, seen-then, Ordered, orderly-left}
+use Rattle.seen.specs.Leaving.{Leaves, leaves-is, head-is, view-is, transaction-is, staged-is, left-handled, seen-then, Ordered, orderly-left}
 
 -- ---- the rows then
 
@@ -130,19 +130,19 @@ module _ (d s u : List ℕ) (t : ℕ) (k : Kind) (low : t < 17) (some : isOpen k
             (λ (a : 16 ≡ t). ap (λ (y : ℕ). transactionOf u y .epoch) a ∙ ap (λ (r : Transaction). r .epoch) (b .own) ∙ sym (b .left .epoch))
             (λ a. ap (λ (r : Transaction). r .epoch) (b .others 16 (omega arith) a) ∙ o .writer-epoch (sym (open-other 16 (omega arith) a) ∙ e) ∙ sym (b .left .epoch));
         staying = record {
-          shut-untouched = λ p l e. rw (b .staged p l) (o .shut-untouched p l (sym (handle-number s u p (b .left .handles p l)) ∙ e));
+          shut-untouched = λ p l e. rw (b .staged p l) (o .shut-untouched p l (sym (number-row s u p (b .left .handles p l)) ∙ e));
           idle-untouched = λ e p l.
               rw (b .staged p l)
               (equal 16 t
               (λ (a : 16 ≡ t). absurd (true≢false (sym opened ∙ ap (isOpenAt u) (sym a) ∙ e)))
               (λ a. o .idle-untouched (sym (open-other 16 (omega arith) a) ∙ e) p l));
           made-append = λ p l h v.
-              let was : isAppend (transactionOf s 16 .kind) ≡ true = o .made-append p l (rw (handle-number s u p (b .left .handles p l)) at h) (rw (b .left .list p l) at v) in
+              let was : isAppend (transactionOf s 16 .kind) ≡ true = o .made-append p l (rw (number-row s u p (b .left .handles p l)) at h) (rw (b .left .list p l) at v) in
               equal 16 t
               (λ (a : 16 ≡ t). absurd (true≢false (sym (append-open (transactionOf s 16 .kind) was) ∙ sym (open-kind s 16) ∙ ap (isOpenAt s) a ∙ free)))
               (λ a. ap (λ (r : Transaction). isAppend (r .kind)) (b .others 16 (omega arith) a) ∙ was);
           made-touched = λ p l h v.
-              rw (b .staged p l) (o .made-touched p l (rw (handle-number s u p (b .left .handles p l)) at h) (rw (b .left .list p l) at v));
+              rw (b .staged p l) (o .made-touched p l (rw (number-row s u p (b .left .handles p l)) at h) (rw (b .left .list p l) at v));
         };
       }
 

@@ -3,7 +3,7 @@
 use mathlib.Core.Path.{_≡_, refl, sym, ap, _∙_}
 use mathlib.Core.Logic.{_≢_, ⊎-elim}
 use mathlib.Core.Bool.{Bool, true, false, cond, not, _&&_, and-false}
-use mathlib.Core.List.{List, [], _∷_, map, List·Memᴰ, List·Memᴰ·head, List·Memᴰ·tail, List·Memᴰ·cases-cons, List·Memᴰ·not-nil}
+use mathlib.Core.List.{List, [], _∷_, List·Memᴰ, List·Memᴰ·cases-cons, List·Memᴰ·not-nil}
 use Prim.Native.Nat.{ℕ, zero, suc, _+_, _≤_, _<_}
 use native.Mathlib.Omega.{arith}
 use borrow.Author.Tests.{eq-eqb, ne-eqb}
@@ -37,11 +37,6 @@ module _ (has : Reader → Bool) where
   pub in-miss : (r : Reader) (rs : List Reader) → has r ≡ false → countIn has (r ∷ rs) ≡ countIn has rs
   in-miss r rs e = in-cons r rs ∙ rw e
 
-  pub in-map : (f : Reader → Reader) (rs : List Reader) → countIn has (map f rs) ≡ countIn (λ r. has (f r)) rs
-  unfolding countIn
-  in-map f [] = refl
-  in-map f (r ∷ rs) = rw (in-map f rs)
-
   -- without those of a number
   pub in-without : (k : ℕ) (rs : List Reader) → countIn has (without k rs) ≡ countIn (λ r. has r && not (eqb k (r .number))) rs
   unfolding countIn without
@@ -51,21 +46,6 @@ module _ (has : Reader → Bool) where
       decide (eqb k (r .number))
       (λ (e : eqb k (r .number) ≡ true). rw (e, and-false (has r)) ih)
       (λ (e : eqb k (r .number) ≡ false). decide (has r) (λ (h : has r ≡ true). rw (e, h) (ap suc ih)) (λ (h : has r ≡ false). rw (e, h) ih))
-
--- a member that has it
-pub record Among (has : Reader → Bool) (rs : List Reader) : Type 0 where
-  pub reader : Reader
-  pub member : List·Memᴰ reader rs
-  pub holds : has reader ≡ true
-
-pub in-some : (has : Reader → Bool) (rs : List Reader) → 0 < countIn has rs → Among has rs
-in-some has [] some = absurd (omega (arith, in-none has))
-in-some has (r ∷ rs) some =
-    decide (has r)
-    (λ e. record { reader = r; member = List·Memᴰ·head refl; holds = e })
-    (λ e.
-    let a = in-some has rs (omega (arith, in-miss has r rs e)) in
-    record { reader = a .reader; member = List·Memᴰ·tail (a .member); holds = a .holds })
 
 pub in-member : (has : Reader → Bool) (r : Reader) (rs : List Reader) → List·Memᴰ r rs → has r ≡ true → 0 < countIn has rs
 in-member has r [] m e = absurd (List·Memᴰ·not-nil m)

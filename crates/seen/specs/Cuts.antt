@@ -41,8 +41,9 @@ use Rattle.seen.specs.Seen.{placeOf, Seen, Handled}
 use Rattle.seen.specs.Orderly.{Orderly}
 use Rattle.seen.specs.Handles.{handle-own}
 use Rattle.seen.specs.GoodTapes.{all-written}
-use Rattle.seen.specs.Touching.{OnHandle, Leads, stagedLen, cuts-kind, cuts-as, cuts-open, cut-writer, cut-listed, its-live, its-base, staged, writerWith}
-use Rattle.seen.specs.Stages.{Put, becomes, on-handle, put-own, Finds, entry-of}
+use Rattle.seen.specs.Touching.{OnHandle, Leads, stagedLen, cut-writer, cut-listed, its-live, its-base, staged, writerWith}
+use Rattle.seen.specs.Stages.{PutRow, row-put, on-handle, put-row-own, Finds, entry-of}
+use Rattle.seen.specs.Kinds.{cuts-kind, cuts-as, cuts-open}
 
 -- ---- a cut
 
@@ -52,8 +53,8 @@ unfolding step
 model-cut st k len to writer live listed within = rw (writer, eq-eqb k k refl, live, listed, le-leb to len within)
 
 -- the row of a tape that is cut
-abbrev pub cutRow : List ℕ → ℕ → ℕ → Staged
-cutRow s p to = record { touched = true; base = touchedAs s p .base; len = to; start = touchedAs s p .start; unwritten = 0 }
+abbrev pub cutStaged : List ℕ → ℕ → ℕ → Staged
+cutStaged s p to = record { touched = true; base = touchedAs s p .base; len = to; start = touchedAs s p .start; unwritten = 0 }
 
 -- what all three do: transaction k cuts the tape of handle h, to so many bytes
 pub record CutsTo (s : List ℕ) (k h : ℕ) (u : List ℕ) : Type 0 where
@@ -70,12 +71,12 @@ module _ (d s : List ℕ) (o : Orderly d s) (k h : ℕ) (u : List ℕ) (c : Cuts
   p = c .tape
 
   abbrev row : Staged
-  row = cutRow s (c .tape) (c .to)
+  row = cutStaged s (c .tape) (c .to)
 
   held : handleNumber s p ≢ 0
   held = handle-found s h p (c .found) .held
 
-  cut-put : Put s h p row
+  cut-put : PutRow s h p row
   unfolding cutTo
   cut-put =
       let fits = touched-fits s (o .session-bytes) p in
@@ -91,8 +92,8 @@ module _ (d s : List ℕ) (o : Orderly d s) (k h : ℕ) (u : List ℕ) (c : Cuts
   unfolding cutTo
   cut-is = c .is
 
-  pub cuts-becomes : Becomes s u (c .tape) (ringOf s (c .tape)) (ringBytes s (c .tape)) (cutRow s (c .tape) (c .to))
-  cuts-becomes = rw cut-is (becomes d s o h p row cut-put)
+  pub cuts-becomes : Becomes s u (c .tape) (ringOf s (c .tape)) (ringBytes s (c .tape)) (cutStaged s (c .tape) (c .to))
+  cuts-becomes = rw cut-is (row-put d s o h p row cut-put)
 
   pub cuts-on : OnHandle d s d u h
   cuts-on = rw cut-is (on-handle d s o h p row cut-put)
@@ -109,7 +110,7 @@ module _ (d s : List ℕ) (o : Orderly d s) (k h : ℕ) (u : List ℕ) (c : Cuts
       (record {
         answer = refl;
         seen = rw cut-is (subst (λ (w : Writer). Seen d (putStaged s p row) n (staged st w (st .held))) is
-            (put-own d s o h p row cut-put n at st (sym none) (its-base d s n o p at held st seen (cuts-open s k (c .writer))) seen));
+            (put-row-own d s o h p row cut-put n at st (sym none) (its-base d s n o p at held st seen (cuts-open s k (c .writer))) seen));
       })
 
   -- the same, by the name's handle

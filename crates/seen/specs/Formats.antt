@@ -1,7 +1,7 @@
 -- A `format` that is served leaves an empty disk and no session; a `store` that is served on an empty disk, whatever session area is lent, is orderly, and
 -- of every tape is seen the store that `lives` begins with. Assumes nothing.
 use mathlib.Core.Path.{_≡_, refl, sym, ap, _∙_}
-use mathlib.Core.Bool.{true, false, false≢true}
+use mathlib.Core.Bool.{false, false≢true}
 use mathlib.Core.List.{List, []}
 use Prim.Native.Nat.{ℕ, zero, suc, _+_, _<_}
 use native.Mathlib.Omega.{arith}
@@ -14,7 +14,6 @@ use Rattle.octets.specs.Only.{bytes-putNum}
 use Rattle.octets.specs.Words.{table-in}
 use Rattle.octets.specs.declared.Found.the-variants.{Nothing}
 use Rattle.answers.specs.Answers.{codeOf}
-use Rattle.answers.specs.declared.Answer.the-variants.{Done}
 use Rattle.metadata.specs.Choice.{partOf, leftCounts, chosen, chosenEpoch, chosenList}
 use Rattle.metadata.specs.Decoding.{tapes}
 use Rattle.metadata.specs.Record.{readRecord}
@@ -24,9 +23,8 @@ use Rattle.metadata.specs.declared.record.Reading.the-variants.{Whole, Empty}
 use Rattle.metadata.specs.declared.choice.Side.the-variants.{Left, Right}
 use Rattle.layout.specs.Disk.{directories, slots, owner}
 use Rattle.layout.specs.Disk as D
-use Rattle.layout.specs.DiskLaws as DL
 use Rattle.layout.specs.Names.{name, findName}
-use Rattle.layout.specs.Session.{begun, sound}
+use Rattle.layout.specs.Session.{begun}
 use Rattle.disk.specs.Meaning.{Slot, Disk, blank, free, slotOf, diskOf}
 use Rattle.disk.specs.StepLaws.{bytes-formatted}
 use Rattle.disk.specs.Steps.{sideBytes}
@@ -35,14 +33,12 @@ use Rattle.session.specs.declared.head.Head.{Head}
 use Rattle.areas.specs.FormatLaws.{format-cases}
 use Rattle.beginning.specs.Disks.{formatCall}
 use Rattle.beginning.specs.Laws.{format-served}
-use Rattle.beginning.specs.Sessions.{bothSound, startWith, theRecord, storeCall}
-use Rattle.beginning.specs.Transactions.{After}
-use Rattle.beginning.specs.Ways.{both-by-session, store-starts}
+use Rattle.beginning.specs.Sessions.{theRecord, storeCall}
 use Rattle.restarts.specs.Level.{store-head}
 use Rattle.lives.specs.Life as Life
-use Rattle.seen.specs.Seen.{filesIn, countIn, Seen, Handled}
-use Rattle.seen.specs.Orderly.{listedAs, Orderly}
-use Rattle.seen.specs.Restarts.{OrderlyDisk, store-orderly, store-handled, store-recorded, same-list, store-answer, readers-after, writer-after, touched-after, live-after}
+use Rattle.seen.specs.Seen.{filesIn, countIn, Seen}
+use Rattle.seen.specs.Orderly.{listedAs}
+use Rattle.seen.specs.Restarts.{OrderlyDisk, store-recorded, same-list, readers-after, writer-after, touched-after, live-after}
 
 -- ---- an empty disk
 
@@ -101,34 +97,24 @@ module _ (d : List ℕ) (k : ℕ) (empty : diskOf d ≡ blank k) where
 
   -- ---- a store on it
 
-  module _ (s : List ℕ) where
-    -- it is served, if the areas keep their layout rules
-    pub blank-served : D.Sound d → sound s ≡ true → storeCall d s .answer ≡ Done 0
-    blank-served rule ok =
-        let both : bothSound d s ≡ true = both-by-session d s (DL.→sound d rule) ∙ ok in
-        ap (λ (o : After). o .answer) (store-starts d s both ∙ ap (startWith d s) list-none) ∙ ap Done epoch-none
-
-    module _ (bytes : Bytes d) (served : codeOf (storeCall d s .answer) ≡ 0) where
-      pub blank-answer : storeCall d s .answer ≡ Done 0
-      blank-answer = store-answer d s served ∙ ap Done epoch-none
-
-      pub blank-seen : (n : List ℕ) → 0 < length n → Seen d (storeCall d s .session) n Life.blank
-      unfolding Life.blank countIn listedAs
-      blank-seen n long =
-          let head = store-head d s bytes served in
-          let new = store-recorded d s bytes served in
-          record {
-            epoch = ap (λ (h : Head). h .epoch) head ∙ epoch-none;
-            cut = ap (λ (h : Head). h .cut) head;
-            last = ap (λ (h : Head). h .«last_transaction») head;
-            list = sym (new .says n long) ∙ ap (listedAs n) (same-list (chosenList (theRecord d)) (new .list) [] (new .read) list-none);
-            readers = readers-after d s bytes served n;
-            writer = writer-after d s bytes served n;
-            touched = touched-after d s bytes served n;
-            live = live-after d s bytes served n;
-            files = ap (filesIn d (storeCall d s .session)) (no-folder n long);
-            opened = λ p found live. absurd (false≢true live);
-          }
+  module _ (s : List ℕ) (bytes : Bytes d) (served : codeOf (storeCall d s .answer) ≡ 0) where
+    pub blank-seen : (n : List ℕ) → 0 < length n → Seen d (storeCall d s .session) n Life.blank
+    unfolding Life.blank countIn listedAs
+    blank-seen n long =
+        let head = store-head d s bytes served in
+        let new = store-recorded d s bytes served in
+        record {
+          epoch = ap (λ (h : Head). h .epoch) head ∙ epoch-none;
+          cut = ap (λ (h : Head). h .cut) head;
+          last = ap (λ (h : Head). h .«last_transaction») head;
+          list = sym (new .says n long) ∙ ap (listedAs n) (same-list (chosenList (theRecord d)) (new .list) [] (new .read) list-none);
+          readers = readers-after d s bytes served n;
+          writer = writer-after d s bytes served n;
+          touched = touched-after d s bytes served n;
+          live = live-after d s bytes served n;
+          files = ap (filesIn d (storeCall d s .session)) (no-folder n long);
+          opened = λ p found live. absurd (false≢true live);
+        }
 
 -- ---- a format
 
@@ -157,28 +143,5 @@ module _ (d s : List ℕ) (k : ℕ) (served : codeOf (formatCall d s k .answer) 
   pub format-unbegun : begun (formatCall d s k .session) ≡ false
   format-unbegun = format-served d s k served .no-session
 
-  pub format-session-sound : sound (formatCall d s k .session) ≡ true
-  format-session-sound = format-served d s k served .session-sound
-
-  -- a store on what it left is served, over any area that keeps the layout rule
-  pub format-store-served : (area : List ℕ) → sound area ≡ true → storeCall e area .answer ≡ Done 0
-  format-store-served area = blank-served e k format-blank area format-sound
-
-  module _ (bytes : Bytes d) where
-    pub format-orderly : OrderlyDisk e
-    format-orderly = blank-orderly e k format-blank format-sound (format-disk-bytes d s k bytes)
-
-    -- what it then leaves; area is whatever is lent as the session
-
-    module _ (area : List ℕ) (stored : codeOf (storeCall e area .answer) ≡ 0) where
-      pub format-store-answer : storeCall e area .answer ≡ Done 0
-      format-store-answer = blank-answer e k format-blank area (format-disk-bytes d s k bytes) stored
-
-      pub format-store-orderly : Bytes area → Orderly e (storeCall e area .session)
-      format-store-orderly whole = store-orderly e area format-orderly whole stored
-
-      pub format-store-seen : (n : List ℕ) → 0 < length n → Seen e (storeCall e area .session) n Life.blank
-      format-store-seen = blank-seen e k format-blank area (format-disk-bytes d s k bytes) stored
-
-      pub format-store-handled : (n : List ℕ) (entry : ℕ) → Handled (storeCall e area .session) n 0 entry
-      format-store-handled = store-handled e area (format-disk-bytes d s k bytes) stored
+  pub format-orderly : Bytes d → OrderlyDisk e
+  format-orderly bytes = blank-orderly e k format-blank format-sound (format-disk-bytes d s k bytes)

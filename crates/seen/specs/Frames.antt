@@ -28,9 +28,8 @@ use Rattle.lives.specs.Life.{Reader}
 use Rattle.seen.specs.Seen.{placeOf, viewIn, liveIn, countOpen, Handled}
 use Rattle.seen.specs.Orderly.{Orderly}
 use Rattle.seen.specs.Places.{found-low, find-same}
-pub use Rattle.seen.specs.Rows.{number-row, entry-row, size-row, open-row}
 use Rattle.seen.specs.Lists.{recorded-same}
-use Rattle.seen.specs.Rows.{view-rows, live-rows, count-rows, handled-rows}
+use Rattle.seen.specs.Rows.{view-rows, live-rows, count-rows, handled-rows, number-row, open-row}
 
 -- what is left as it was
 pub record Frame (d s e u : List ℕ) : Type 0 where

@@ -22,8 +22,7 @@ use Rattle.session.specs.Rows.{viewOf, handleOf, stagedOf}
 use Rattle.rolling_tape.specs.Room.{onDisk}
 use Rattle.staging.specs.Seeing.{directoryOf, touchedAs}
 use Rattle.staging.specs.Ways.{touched-now}
-pub use Rattle.joins.specs.Ranges.{lacking-within, last-part, lacking-last}
-use Rattle.seen.specs.Frames.{size-row}
+use Rattle.seen.specs.Rows.{size-row}
 
 -- ---- one tape among all
 

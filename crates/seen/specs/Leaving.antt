@@ -28,9 +28,8 @@ use Rattle.lives.specs.Life.{Answer, Reader, Writer, Store, then}
 use Rattle.seen.specs.Seen.{placeOf, viewIn, writerIn, touchedIn, filesIn, countIn, countOpen, Seen, Handled}
 use Rattle.seen.specs.Orderly.{Orderly}
 use Rattle.seen.specs.Places.{found-low, find-same}
-pub use Rattle.seen.specs.Rows.{number-row as handle-number}
 use Rattle.seen.specs.Lists.{recorded-as}
-use Rattle.seen.specs.Rows.{size-row, view-rows, live-rows, handled-rows}
+use Rattle.seen.specs.Rows.{size-row, view-rows, live-rows, handled-rows, number-row}
 
 pub record Leaves (s u : List ℕ) : Type 0 where
   pub epoch : headOf u .epoch ≡ headOf s .epoch
@@ -153,7 +152,7 @@ pub record Ordered (u : List ℕ) : Type 0 where
 
 pub orderly-left : (d s u : List ℕ) → Leaves s u → Orderly d s → Begun u → Bytes u → Ordered u → Orderly d u
 orderly-left d s u left o begun bytes t =
-    let number : (p : ℕ) → p < 8 → handleNumber u p ≡ handleNumber s p = λ p l. handle-number s u p (left .handles p l) in
+    let number : (p : ℕ) → p < 8 → handleNumber u p ≡ handleNumber s p = λ p l. number-row s u p (left .handles p l) in
     record {
       disk = o .disk;
       session = begun;

@@ -4,11 +4,11 @@ use mathlib.Core.Path.{_≡_, refl, sym, ap, _∙_}
 use mathlib.Core.Bool.{true, false, true≢false, false≢true, _&&_}
 use mathlib.Core.List.{List, [], _∷_}
 use mathlib.Core.Option.{Option, none, some}
-use Prim.Native.Nat.{ℕ, zero, suc, _≤_, _<_}
+use Prim.Native.Nat.{ℕ, zero, suc, _<_}
 use native.Mathlib.Omega.{arith}
 use lib.Dec.{leb}
 use lib.ListN.{length, getElem?}
-use Rattle.octets.specs.Cases.{decide, order, and-l, and-r}
+use Rattle.octets.specs.Cases.{decide, and-l, and-r}
 use Rattle.octets.specs.Compare.{sameBytes, same-refl, comesBefore}
 use Rattle.octets.specs.Number.{Bytes}
 use Rattle.octets.specs.declared.Found.{Found}
@@ -17,7 +17,6 @@ use Rattle.answers.specs.Answers.{codeOf}
 use Rattle.metadata.specs.Choice.{chosenList}
 use Rattle.metadata.specs.Name.{nameRule}
 use Rattle.metadata.specs.Decoding.{tapes}
-use Rattle.metadata.specs.NameLaws.{rule-empty}
 use Rattle.metadata.specs.Rules.{good-first, good-others, good-tapes}
 use Rattle.metadata.specs.Tapes.{Tape, fits, goodAfter}
 use Rattle.layout.specs.Names.{name}
@@ -26,6 +25,7 @@ use Rattle.disk.specs.Meaning.{blank, diskOf}
 use Rattle.session.specs.BeginLaws.{nameOf, viewFor}
 use Rattle.session.specs.Rows.{viewOf}
 use Rattle.session.specs.declared.views.View.{View}
+use Rattle.opening.specs.ShapeLaws.{name-some}
 use Rattle.beginning.specs.Sessions.{theRecord, storeCall}
 use Rattle.beginning.specs.StoreLaws.{list-good}
 use Rattle.restarts.specs.Level.{store-reads}
@@ -35,7 +35,7 @@ use Rattle.seen.specs.Orderly.{listedAs, Orderly}
 use Rattle.seen.specs.Proper.{Proper}
 use Rattle.seen.specs.Places.{found-low, found-name}
 use Rattle.seen.specs.Shown.{shown-keeps}
-use Rattle.seen.specs.Restarts.{same-list, name-stored, list-stored, stands, list-says}
+use Rattle.seen.specs.Restarts.{same-list, name-stored, list-stored, named-tape, list-says}
 use Rattle.seen.specs.Formats.{blank-seen}
 
 -- ---- the tapes of a list that may be stored: each keeps the rule, and the list has its name
@@ -48,10 +48,6 @@ rule-in : (before : List ℕ) (ts : List Tape) → goodAfter before ts ≡ true 
 rule-in before [] good i t e = let z : _≡_ {A = ℕ} 0 1 = cc in absurd (omega arith)
 rule-in before (x ∷ xs) good zero t e = let same : x ≡ t = cc in rw (← same) (fits-rule before x (good-first before x xs good))
 rule-in before (x ∷ xs) good (suc i) t e = rule-in (x .name) xs (good-others before x xs good) i t e
-
--- (`name-some` of opening/ShapeLaws, which is private there)
-rule-some : (n : List ℕ) → nameRule n ≡ true → 0 < length n
-rule-some n e = order 0 (length n) (λ l. l) (λ (l : length n ≤ 0). absurd (true≢false (sym e ∙ rule-empty n (omega arith))))
 
 listed-in : (ts : List Tape) (i : ℕ) (t : Tape) → getElem? ts i ≡ some t → listedAs (t .name) ts .listed ≡ true
 unfolding listedAs
@@ -83,12 +79,12 @@ module _ (d area : List ℕ) (bytes : Bytes d) (served : codeOf (storeCall d are
   tape-listed p low t e =
       let has : name u namesAt p ≡ t .name = name-stored d area bytes served p low ∙ ap nameOf e in
       record {
-        named = rw has (rule-some (t .name) (rule-in [] ts (good-tapes ts (list-good (theRecord d) ts read)) p t e));
+        named = rw has (name-some (t .name) (rule-in [] ts (good-tapes ts (list-good (theRecord d) ts read)) p t e));
         listed = rw has (listed-in ts p t e);
       }
 
   named-listed : (p : ℕ) → p < 8 → 0 < length (name u namesAt p) → Listed p
-  named-listed p low long = let it = stands d area bytes served p low long in tape-listed p low (it .tape) (it .at)
+  named-listed p low long = let it = named-tape d area bytes served p low long in tape-listed p low (it .tape) (it .at)
 
   seen-listed : (p : ℕ) → p < 8 → viewOf u 17 p .listed ≡ true → Listed p
   seen-listed p low listed = by (getElem? ts p) refl

@@ -42,11 +42,13 @@ use Rattle.lives.specs.Invariant.{Phys, Good, build}
 use Rattle.seen.specs.Seen.{Seen, Handled}
 use Rattle.seen.specs.Orderly.{Orderly}
 use Rattle.seen.specs.Places.{found-name}
-use Rattle.seen.specs.Frames.{Frame, frame-folder, frame-number, size-row}
+use Rattle.seen.specs.Frames.{Frame, frame-folder, frame-number}
 use Rattle.seen.specs.Touching.{touched-row}
-use Rattle.seen.specs.Puts.{put-found, put-inside, put-is, put-frame, puts, sent, counted}
-use Rattle.seen.specs.Lacking.{lacking-last, last-part, room-left, same-lacking, open-lacking, other-lacking, but-one}
+use Rattle.seen.specs.Puts.{put-found, put-inside, put-is, put-frame, put-rows, sent, counted}
+use Rattle.seen.specs.Lacking.{room-left, same-lacking, open-lacking, other-lacking, but-one}
 use Rattle.seen.specs.Rooms.{Roomy, touched-same}
+use Rattle.seen.specs.Rows.{size-row}
+use Rattle.joins.specs.Ranges.{lacking-last, last-part}
 
 -- no more is unwritten than was, and what was put
 unwritten-most : (r : RingBuffer) (unwritten n : ℕ) → unwrittenAfter r unwritten n ≤ unwritten + n
@@ -85,7 +87,7 @@ module _ (d s : List ℕ) (o : Orderly d s) (k h : ℕ) (bs : List ℕ) (bytes :
 
   others-lack : (q : ℕ) → q < 8 → q ≢ p → lackingOf (behind .disk) (behind .session) 8 0 q ≡ lackingOf d s p (length bs) q
   others-lack q small apart =
-      let b = puts d s o k h bs bytes p place g inside in
+      let b = put-rows d s o k h bs bytes p place g inside in
       let f = frame in
       let row-same = touched-same s (behind .session) q (b .others q small apart .staged) (f .views 16 q (omega arith) small) in
       same-lacking d s (behind .disk) (behind .session) q small
@@ -109,7 +111,7 @@ module _ (d s : List ℕ) (o : Orderly d s) (k h : ℕ) (bs : List ℕ) (bytes :
       ≡ lackingFrom (onDisk (behind .disk) place) (fileOf (fileSize s p) (lowOf new)) (covered (fileSize s p) (lowOf new) end)
   own-now =
       let u = behind .session in
-      let b = puts d s o k h bs bytes p place g inside in
+      let b = put-rows d s o k h bs bytes p place g inside in
       let f = frame in
       let is-new : touchedAs u p ≡ new = touched-row u p (rw (b .staged)) ∙ b .staged in
       let ends : endOf new 0 ≡ end = omega (arith, unwritten-most (ringOf s p) (row .unwritten) (length bs)) in
@@ -124,7 +126,7 @@ module _ (d s : List ℕ) (o : Orderly d s) (k h : ℕ) (bs : List ℕ) (bytes :
       let from = unwrittenFrom row in
       let c = sent d s o k h bs bytes p place g inside in
       let same = c .count (fileOf fs (lowOf row)) (covered fs (lowOf row) end) (file-mono fs some (lowOf row) from (omega arith)) (last-part fs some (lowOf row) from end (omega arith) (omega arith)) in
-      let kept = rw (← puts d s o k h bs bytes p place g inside .disk) at same in
+      let kept = rw (← put-rows d s o k h bs bytes p place g inside .disk) at same in
       let fewer = unwritten-most (ringOf s p) (row .unwritten) (length bs) in
       omega (
         arith,

@@ -19,7 +19,6 @@ use Rattle.components.specs.Slots.{lackingFrom, covered}
 use Rattle.layout.specs.Names.{name, findName}
 use Rattle.layout.specs.Disk.{directories}
 use Rattle.layout.specs.Session.{namesAt, handleNumber, entrySize, fileSize, ringLen}
-use Rattle.disk.specs.Steps.{files}
 use Rattle.disk.specs.StepLaws.{directory-low}
 use Rattle.session.specs.declared.tape_rows.Staged.{Staged}
 use Rattle.session.specs.Rows.{transactionOf, ringOf}
@@ -31,10 +30,10 @@ use Rattle.cached_tape.specs.PutLaws.{sound-putIn, begun-putIn, bytes-putIn-dis
 use Rattle.beginning.specs.Laws.{refusal-some}
 use Rattle.staging.specs.Seeing.{touchedAs}
 use Rattle.staging.specs.Ways.{handle-found}
-use Rattle.staging.specs.Laws.{touched-fits}
+use Rattle.staging.specs.Laws.{touched-fits, touched-held}
 use Rattle.appending.specs.Room.{lowOf, endOf, lackingOf}
 use Rattle.appending.specs.Calls.{doneIn, putCall}
-use Rattle.appending.specs.CallWays.{seen-touched, touched-held}
+use Rattle.appending.specs.CallWays.{seen-touched}
 use Rattle.appending.specs.Laws.{Goes, served, put-cases, put-done, put-lengths}
 use Rattle.touches.specs.Puts.{put-leaves-session, put-leaves-disk}
 use Rattle.held.specs.Held.{Held, putHeld}
@@ -51,8 +50,10 @@ use Rattle.seen.specs.Orderly.{Orderly}
 use Rattle.seen.specs.Places.{found-name, find-same}
 use Rattle.seen.specs.Frames.{Frame, one-staged, orderly-frame, frame-handled, frame-stays}
 use Rattle.seen.specs.Handles.{handle-number, handle-own, handle-at}
-use Rattle.seen.specs.Touching.{OnHandle, Leads, stagedLen, writes-kind, writes-as, writes-open, append-writer, its-live, its-rows, its-base, Touching, staged, writerWith, seen-touching, seen-others}
-use Rattle.seen.specs.Lacking.{lacking-last, lacking-each, room-left}
+use Rattle.seen.specs.Touching.{OnHandle, Leads, stagedLen, append-writer, its-live, its-rows, its-base, Touching, staged, writerWith, seen-touching, seen-others}
+use Rattle.seen.specs.Lacking.{lacking-each, room-left}
+use Rattle.seen.specs.Kinds.{writes-kind, writes-as, writes-open}
+use Rattle.joins.specs.Ranges.{lacking-last}
 
 -- ---- the model's
 
@@ -133,8 +134,8 @@ module _ (d s : List ℕ) (o : Orderly d s) (k h : ℕ) (bs : List ℕ) (bytes :
       (putHeld (fileSize s p) (touchedAs s p .len) (heldAt before place p (touchedAs s p .unwritten)) bs .files)
   sent = sent-files before place p row bs lacks
 
-  pub puts : PutsIn (areas d s) place p (touchedAs s p) bs
-  puts =
+  pub put-rows : PutsIn (areas d s) place p (touchedAs s p) bs
+  put-rows =
       let small = touched-fits s (o .session-bytes) p in
       puts-in before place p row bs (o .disk) (o .session) there low held pending fits (omega (arith, small .base)) (omega (arith, small .start))
 
@@ -153,9 +154,9 @@ module _ (d s : List ℕ) (o : Orderly d s) (k h : ℕ) (bs : List ℕ) (bytes :
         session = begun-putIn before place p row (o .disk) (o .session) there low held pending bs fits;
         disk-bytes = bytes-putIn-disk before place p row (o .disk) (o .session) there low held pending bs fits (o .disk-bytes) (o .session-bytes) bytes;
         session-bytes = bytes-putIn-session before place p row (o .disk) (o .session) there low held pending bs fits (o .session-bytes) bytes;
-        once = rw (puts .disk) (sent .once);
+        once = rw (put-rows .disk) (sent .once);
       })
-      (one-staged d s (behind .session) p o held (writes-open s k (g .writer)) (ap (λ (r : Staged). r .touched) (puts .staged)) (λ q l apart. puts .others q l apart .staged))
+      (one-staged d s (behind .session) p o held (writes-open s k (g .writer)) (ap (λ (r : Staged). r .touched) (put-rows .staged)) (λ q l apart. put-rows .others q l apart .staged))
       o
 
   -- the directories are where they were
@@ -174,12 +175,12 @@ module _ (d s : List ℕ) (o : Orderly d s) (k h : ℕ) (bs : List ℕ) (bytes :
   other-files n h′ entry its apart = ap (filesIn (behind .disk) (behind .session)) (put-folder n) ∙ by (findName d directories n) refl
     where
       by : (found : Found) → findName d directories n ≡ found → filesIn (behind .disk) (behind .session) found ≡ filesIn d s found
-      by (At q) at = puts .files q ∙ sent .other q (folder-apart n h′ entry q its apart at)
+      by (At q) at = put-rows .files q ∙ sent .other q (folder-apart n h′ entry q its apart at)
       by Nothing at = refl
 
   put-others : (n : List ℕ) (h′ entry : ℕ) → Handled s n h′ entry → h′ ≢ h → (st : Store) → Seen d s n st → Seen (behind .disk) (behind .session) n st
   put-others n h′ entry its apart =
-      seen-others d s (behind .disk) (behind .session) h p put-frame (handle-number s h p (g .found)) (puts .others) n (other-files n h′ entry its apart) h′ entry its apart
+      seen-others d s (behind .disk) (behind .session) h p put-frame (handle-number s h p (g .found)) (put-rows .others) n (other-files n h′ entry its apart) h′ entry its apart
 
   putIn-on : OnHandle d s (behind .disk) (behind .session) h
   putIn-on = record { orderly = put-orderly; frame = put-frame; others = put-others; handled = frame-handled d s (behind .disk) (behind .session) put-frame }
@@ -191,7 +192,7 @@ module _ (d s : List ℕ) (o : Orderly d s) (k h : ℕ) (bs : List ℕ) (bytes :
     own-folder = subst (λ (m : List ℕ). findName d directories m ≡ At place) (found-name s namesAt n p at) (g .on .there)
 
     own-files : filesFor (behind .disk) (behind .session) n ≡ putHeld (fileSize s p) (row .len) (heldAt before place p (row .unwritten)) bs .files
-    own-files = ap (filesIn (behind .disk) (behind .session)) (put-folder n ∙ own-folder) ∙ puts .files place ∙ sent .own
+    own-files = ap (filesIn (behind .disk) (behind .session)) (put-folder n ∙ own-folder) ∙ put-rows .files place ∙ sent .own
 
     -- what the areas hold of it is what the model holds
     same-held : heldAt before place p (row .unwritten) ≡ st .held
@@ -206,10 +207,10 @@ module _ (d s : List ℕ) (o : Orderly d s) (k h : ℕ) (bs : List ℕ) (bytes :
         record {
           frame = put-frame;
           at = at;
-          ring = puts .ring;
-          cache = puts .cache;
+          ring = put-rows .ring;
+          cache = put-rows .cache;
           files = own-files;
-          staged = puts .staged;
+          staged = put-rows .staged;
           touched = refl;
           unwritten = refl;
         }
@@ -237,20 +238,20 @@ module _ (d s : List ℕ) (o : Orderly d s) (k h : ℕ) (bs : List ℕ) (bytes :
 -- ---- the call
 
 -- what it has found
-pub record Finds (d s : List ℕ) (k h : ℕ) (bs : List ℕ) : Type 0 where
+pub record PutFinds (d s : List ℕ) (k h : ℕ) (bs : List ℕ) : Type 0 where
   pub tape : ℕ
   pub place : ℕ
   pub goes : Goes d s k h bs tape place
 
-pub put-found : (d s : List ℕ) (k h : ℕ) (bs : List ℕ) → codeOf (putCall d s k h bs .answer) ≡ 0 → Finds d s k h bs
+pub put-found : (d s : List ℕ) (k h : ℕ) (bs : List ℕ) → codeOf (putCall d s k h bs .answer) ≡ 0 → PutFinds d s k h bs
 put-found d s k h bs =
-    put-cases (λ (a : Outcome). codeOf (a .answer) ≡ 0 → Finds d s k h bs) d s bs (λ why e. absurd (refusal-some why e)) k h
+    put-cases (λ (a : Outcome). codeOf (a .answer) ≡ 0 → PutFinds d s k h bs) d s bs (λ why e. absurd (refusal-some why e)) k h
     (λ p place g e. record { tape = p; place = place; goes = g })
 
 -- n is the name of the handle's tape
 module _ (d s : List ℕ) (o : Orderly d s) (k h : ℕ) (bs : List ℕ) (bytes : Bytes bs) (served : codeOf (putCall d s k h bs .answer) ≡ 0)
     (n : List ℕ) (entry : ℕ) (its : Handled s n h entry) (t : Told) (x : Phys) (good : Good t x) (seen : Seen d s n (build t x)) where
-  abbrev found : Finds d s k h bs
+  abbrev found : PutFinds d s k h bs
   found = put-found d s k h bs served
 
   own : (placeOf s n ≡ At (found .tape)) × (entrySize s (found .tape) ≡ entry)

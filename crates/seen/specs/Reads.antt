@@ -31,11 +31,12 @@ use Rattle.rolling_tape.specs.Removal.{areas}
 use Rattle.rolling_tape.specs.Room.{isFound}
 use Rattle.cached_tape.specs.Serving.{canServe, served}
 use Rattle.beginning.specs.Transactions.{isOpenAt, usable}
+use Rattle.beginning.specs.Ways.{→usable}
 use Rattle.staging.specs.Seeing.{directoryOf, isTruncate, cuts, seenBy, touchedAs, lenCall, startCall}
 use Rattle.staging.specs.Cutting.{cutTo}
 use Rattle.staging.specs.Ways.{seen-view, len-listed, start-listed, len-goes, start-goes}
 use Rattle.appending.specs.Calls.{putCall}
-use Rattle.appending.specs.CallWays.{→usable, seen-touched}
+use Rattle.appending.specs.CallWays.{seen-touched}
 use Rattle.appending.specs.Laws.{put-cases}
 use Rattle.entries.specs.Laws.{Inside, filled, read-done, pop-done}
 use Rattle.entries.specs.Popping.{popCall}
@@ -52,10 +53,10 @@ use Rattle.seen.specs.Seen.{placeOf, shown, viewIn, readerIn, writerAs, 
 use Rattle.seen.specs.Orderly.{Orderly}
 use Rattle.seen.specs.Counts.{in-hit, in-miss, open-some}
 use Rattle.seen.specs.Shown.{shown-listed}
-use Rattle.seen.specs.Closes.{find-transaction}
 use Rattle.seen.specs.Handles.{Placed, handle-place, live-at}
 use Rattle.seen.specs.Places.{found-low}
 use Rattle.seen.specs.Starts.{CutStarts}
+use Rattle.seen.specs.Transactions.{find-transaction}
 
 -- ---- what the writer's row says
 
@@ -222,8 +223,9 @@ found-there : (f : Found) → isFound f ≡ true → (i : ℕ) × (f ≡ At i)
 found-there (At i) e = (i, refl)
 found-there Nothing e = absurd (true≢false (sym e))
 
-same-place : (f : Found) (i j : ℕ) → f ≡ At i → f ≡ At j → i ≡ j
-same-place f i j e g = cc
+-- what is found, is found in one place
+pub one-place : (f : Found) (i j : ℕ) → f ≡ At i → f ≡ At j → i ≡ j
+one-place f i j e g = cc
 
 module _ (d s n : List ℕ) (letters : 0 < length n) (o : Orderly d s) (t : Told) (p : Phys) (good : Good t p)
     (seen : Seen d s n (build t p)) (h entry : ℕ) (its : Handled s n h entry) (given : h ≢ 0) where
@@ -287,7 +289,7 @@ module _ (d s n : List ℕ) (letters : 0 < length n) (o : Orderly d s) (t : Told
       (λ why e. let z : _≡_ {A = ℕ} 0 1 = cc in absurd (omega arith))
       k h
       (λ a place g e.
-      let same : a ≡ w = same-place (findHandle s h) a w (g .found) (tape .found) in
+      let same : a ≡ w = one-place (findHandle s h) a w (g .found) (tape .found) in
       let seen-so : seenBy s 16 w .listed ≡ true = subst (λ (x : ℕ). seenBy s 16 x .listed ≡ true) same (g .on .listed) in
       let whole : seenBy s 16 w ≡ shown (seenBy s 16 w) = shown-listed (seenBy s 16 w) (shown (seenBy s 16 w)) refl (rw seen-so) .1 in
       let len : touchedAs s w .len ≡ length c = sym (seen-touched s w) ∙ ap (λ (x : View). x .len) (whole ∙ row .view) in
@@ -365,4 +367,4 @@ module _ (d s n : List ℕ) (letters : 0 < length n) (o : Orderly d s) (t : Told
           })
           ∙ ap (λ (m : ℕ). popping (Entry m) (cutTo s w (m * entrySize s w)) (filled d s w m 1 out)) its-last
           ∙ ap (λ (b : List ℕ). popping (Entry last) (cutTo s w (last * entrySize s w)) b) bytes-are
-          ∙ rw (tape .entry-size, same-place (placeOf s n) w a (tape .at) at)
+          ∙ rw (tape .entry-size, one-place (placeOf s n) w a (tape .at) at)

@@ -166,22 +166,22 @@ module _ (d s : List ℕ) (bytes : Bytes d) (served : codeOf (storeCall d s .ans
   untouched-stored p low = ap (λ (r : Staged). r .touched) (staged-stored p low)
 
   -- the tape in a place that has a name
-  pub record Stands (p : ℕ) : Type 0 where
+  pub record NamedTape (p : ℕ) : Type 0 where
     pub tape : Tape
     pub at : getElem? ts p ≡ some tape
     pub has : name u namesAt p ≡ tape .name
 
-  pub stands : (p : ℕ) → p < 8 → 0 < length (name u namesAt p) → Stands p
-  stands p low long = by (getElem? ts p) refl
+  pub named-tape : (p : ℕ) → p < 8 → 0 < length (name u namesAt p) → NamedTape p
+  named-tape p low long = by (getElem? ts p) refl
     where
-      by : (o : Option Tape) → getElem? ts p ≡ o → Stands p
+      by : (o : Option Tape) → getElem? ts p ≡ o → NamedTape p
       by none e = let same : name u namesAt p ≡ [] = name-stored p low ∙ ap nameOf e in absurd (omega (arith, ap length same))
       by (some t) e = record { tape = t; at = e; has = name-stored p low ∙ ap nameOf e }
 
   names-stored : (p q : ℕ) → p < 8 → q < 8 → 0 < length (name u namesAt p) → name u namesAt p ≡ name u namesAt q → p ≡ q
   names-stored p q low high long same =
-      let one = stands p low long in
-      let other = stands q high (rw (← same) long) in
+      let one = named-tape p low long in
+      let other = named-tape q high (rw (← same) long) in
       tapes-apart [] ts good p q (one .tape) (other .tape) (one .at) (other .at) (sym (one .has) ∙ same ∙ other .has)
 
   free-stored : (p : ℕ) → p < 8 → length (name u namesAt p) ≡ 0 → viewOf u 17 p .listed ≡ false
@@ -202,7 +202,7 @@ module _ (d s : List ℕ) (bytes : Bytes d) (served : codeOf (storeCall d s .ans
       by (At p) e =
           let low = found-low u namesAt n p e in
           let has = found-name u namesAt n p e in
-          let one = stands p low (rw has long) in
+          let one = named-tape p low (rw has long) in
           listed-at n [] ts good p (one .tape) (one .at) (sym (one .has) ∙ has)
           ∙ sym (ap shown (list-stored p low ∙ ap viewFor (one .at)))
       by Nothing e =

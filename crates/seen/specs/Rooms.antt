@@ -16,7 +16,6 @@ use Rattle.answers.specs.Answers.{codeOf}
 use Rattle.answers.specs.Outcome.{Outcome}
 use Rattle.answers.specs.declared.Answer.{Answer}
 use Rattle.answers.specs.declared.Answer.the-variants.{Done, Refused}
-use Rattle.answers.specs.declared.Refusal.the-variants.{NoSlot, Missing}
 use Rattle.layout.specs.Names.{name}
 use Rattle.layout.specs.Disk.{slots}
 use Rattle.layout.specs.Session.{namesAt, handleNumber, entrySize}
@@ -46,9 +45,9 @@ use Rattle.touches.specs.Drops.{drop-reader-touches}
 use Rattle.touches.specs.Rows.{view-stays, transaction-stays, handle-stays, staged-stays, name-stays}
 use Rattle.seen.specs.Orderly.{Orderly}
 use Rattle.seen.specs.Rows.{number-row}
-use Rattle.seen.specs.Kinds.{append-open}
+use Rattle.seen.specs.Kinds.{append-open, writes-kind, cuts-kind}
 use Rattle.seen.specs.Frames.{frame-folder, frame-number}
-use Rattle.seen.specs.Touching.{touched-row, writes-kind, cuts-kind}
+use Rattle.seen.specs.Touching.{touched-row}
 use Rattle.seen.specs.Stages.{shift-found, shift-on, shift-becomes, shiftedRow}
 use Rattle.seen.specs.Cuts.{CutsTo, cuts-on}
 use Rattle.seen.specs.Lacking.{SameLack, same-lacking, all-lacking, idle-lacking}
@@ -238,9 +237,3 @@ module _ (d s : List ℕ) (o : Orderly d s) where
       (λ w. append-fine (le-ltb (slots d) (files d + lackingAll d s 8 0 8 0) (roomy (ap isAppend (writes-kind s k w)))))
       (λ w. picked P (cuts s k) _ _ (λ c. truncate-fine) (λ c. ((λ e. omega arith), (λ e. omega arith)))))
       (λ ok. ((λ e. omega arith), (λ e. omega arith)))
-
-  -- of an append and of a truncate
-  pub commit-roomy : Roomy d s → (k : ℕ) → (commitCall d s k .answer ≢ Refused NoSlot) × (commitCall d s k .answer ≢ Refused Missing)
-  commit-roomy roomy k =
-      let fine = commit-fine roomy k in
-      ((λ e. fine .0 (ap codeOf e)), (λ e. fine .1 (ap codeOf e)))

@@ -17,7 +17,7 @@ use Rattle.layout.specs.Session.{namesAt, handleNumber, entrySize, fileSize}
 use Rattle.session.specs.declared.tape_rows.Handle.{Handle}
 use Rattle.session.specs.declared.tape_rows.Staged.{Staged}
 use Rattle.session.specs.Meaning.{closed}
-use Rattle.session.specs.Rows.{viewOf, transactionOf, handleOf, stagedOf}
+use Rattle.session.specs.Rows.{headOf, viewOf, transactionOf, handleOf, stagedOf}
 use Rattle.beginning.specs.Transactions.{isOpenAt}
 use Rattle.staging.specs.Seeing.{seenBy, touchedAs}
 use Rattle.ending.specs.Listing.{isTouched}
@@ -61,6 +61,23 @@ reader-low u shut t low is-open =
     (λ (l : 16 ≤ t).
     let last : t ≡ 16 = omega arith in
     absurd (true≢false (sym is-open ∙ ap (isOpenAt u) last ∙ shut)))
+
+-- where the writer has ended and the readers are as before, no number is given twice, and none is above the last
+module _ (d s u : List ℕ) (o : Orderly d s) (shut : isOpenAt u 16 ≡ false) (readers : (t : ℕ) → t < 16 → transactionOf u t ≡ transactionOf s t) where
+  pub was-open : (t : ℕ) → t < 16 → isOpenAt u t ≡ true → isOpenAt s t ≡ true
+  was-open t low is-open = sym (open-row s u t (readers t low)) ∙ is-open
+
+  pub readers-once : (t v : ℕ) → t < 17 → v < 17 → isOpenAt u t ≡ true → isOpenAt u v ≡ true → transactionOf u t .number ≡ transactionOf u v .number → t ≡ v
+  readers-once t v l m open-t open-v same =
+      let a = reader-low u shut t l open-t in
+      let b = reader-low u shut v m open-v in
+      o .numbers t v l m (was-open t a open-t) (was-open v b open-v) (rw (readers t a, readers v b) at same)
+
+  pub readers-given : headOf u .«last_transaction» ≡ headOf s .«last_transaction» → (t : ℕ) → t < 17 → isOpenAt u t ≡ true
+      → transactionOf u t .number ≤ headOf u .«last_transaction»
+  readers-given last t l open-t =
+      let a = reader-low u shut t l open-t in
+      rw (readers t a, last) (o .number-given t l (was-open t a open-t))
 
 -- the open readers, where each sees of the tape what it saw
 pub count-rows : (s u : List ℕ) (was now : Found) → ((t : ℕ) → t < 16 → transactionOf u t ≡ transactionOf s t) → ((t : ℕ) → t < 16 → viewIn u t now ≡ viewIn s t was)

@@ -6,10 +6,10 @@ use native.Mathlib.Omega.{arith}
 use Rattle.octets.specs.declared.Found.the-variants.{At}
 use Rattle.session.specs.declared.tape_rows.Staged.{Staged}
 use Rattle.session.specs.Rows.{headOf, viewOf, transactionOf, handleOf, ringOf, ringBytes, stagedOf}
-use Rattle.staging.specs.Seeing.{seenBy, touchedAs}
+use Rattle.staging.specs.Seeing.{touchedAs}
 use Rattle.lives.specs.Life.{Store}
 use Rattle.seen.specs.Seen.{placeOf, viewIn, writerIn, touchedIn, filesFor, Seen, Handled}
-use Rattle.seen.specs.Rows.{size-row, seen-as, touched-as, staged-in, touched-in, view-rows, live-rows, count-rows, handled-rows}
+use Rattle.seen.specs.Rows.{size-row, touched-as, staged-in, touched-in, view-rows, live-rows, count-rows, handled-rows}
 
 -- the rows of tape p
 pub record SameTape (s u : List ℕ) (p : ℕ) : Type 0 where
@@ -30,9 +30,6 @@ pub record Same (d s e u n : List ℕ) : Type 0 where
 
 -- what is seen of it, from its rows
 module _ (s u : List ℕ) (p : ℕ) (rows : SameTape s u p) where
-  pub seen-rows : seenBy u 16 p ≡ seenBy s 16 p
-  seen-rows = seen-as s u p (rows .staged) (rows .view 16 (omega arith))
-
   pub touched-rows : touchedAs u p ≡ touchedAs s p
   touched-rows = touched-as s u p (rows .staged) (rows .view 16 (omega arith))
 

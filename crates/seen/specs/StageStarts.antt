@@ -19,10 +19,11 @@ use Rattle.lives.specs.Invariant.{Phys, Good, build}
 use Rattle.seen.specs.Seen.{Seen, Handled}
 use Rattle.seen.specs.Orderly.{Orderly}
 use Rattle.seen.specs.Starts.{CutStarts}
-use Rattle.seen.specs.Touching.{touched-row, writes-kind, cuts-kind}
+use Rattle.seen.specs.Touching.{touched-row}
 use Rattle.seen.specs.Stages.{shift-found, shift-on}
 use Rattle.seen.specs.Cuts.{CutsTo, cuts-on, cuts-becomes}
 use Rattle.seen.specs.Puts.{put-found, put-on}
+use Rattle.seen.specs.Kinds.{writes-kind, cuts-kind}
 
 -- where an append is open nothing is asked
 open-starts : (s u : List ℕ) (k : ℕ) → writes s k ≡ true → transactionOf u 16 ≡ transactionOf s 16 → CutStarts u

@@ -36,27 +36,28 @@ use Rattle.seen.specs.Seen.{placeOf, filesIn, filesFor, Seen, Handled}
 use Rattle.seen.specs.Orderly.{Orderly}
 use Rattle.seen.specs.Frames.{Frame, one-staged, orderly-frame, frame-handled, frame-stays}
 use Rattle.seen.specs.Handles.{handle-number, handle-own, live-at}
-use Rattle.seen.specs.Touching.{OnHandle, Leads, writes-kind, writes-as, writes-open, append-writer, its-live, its-rows, its-base, staged, writerWith, seen-touching, seen-others}
+use Rattle.seen.specs.Touching.{OnHandle, Leads, append-writer, its-live, its-rows, its-base, staged, writerWith, seen-touching, seen-others}
+use Rattle.seen.specs.Kinds.{writes-kind, writes-as, writes-open}
 
 -- ---- a staged record put in the row of the handle's tape
 
 -- what is known of it
-pub record Put (s : List ℕ) (h p : ℕ) (row : Staged) : Type 0 where
+pub record PutRow (s : List ℕ) (h p : ℕ) (row : Staged) : Type 0 where
   pub found : findHandle s h ≡ At p
   pub writer : isOpenAt s 16 ≡ true
   pub fits : StagedFits row
   pub touched : row .touched ≡ true
   pub begun : Begun (putStaged s p row)
 
-module _ (d s : List ℕ) (o : Orderly d s) (h p : ℕ) (row : Staged) (put : Put s h p row) where
+module _ (d s : List ℕ) (o : Orderly d s) (h p : ℕ) (row : Staged) (put : PutRow s h p row) where
   abbrev u : List ℕ
   u = putStaged s p row
 
   low : p < 8
   low = handle-found s h p (put .found) .low
 
-  pub becomes : Becomes s (putStaged s p row) p (ringOf s p) (ringBytes s p) row
-  becomes = staged-becomes s (begun-ready s (o .session)) p low row (put .fits)
+  pub row-put : Becomes s (putStaged s p row) p (ringOf s p) (ringBytes s p) row
+  row-put = staged-becomes s (begun-ready s (o .session)) p low row (put .fits)
 
   put-frame : Frame d s d u
   put-frame =
@@ -76,35 +77,35 @@ module _ (d s : List ℕ) (o : Orderly d s) (h p : ℕ) (row : Staged) (put : Pu
         session-bytes = bytes-putStaged s (o .session-bytes) p row (omega (arith, low, o .session .long));
         once = o .once;
       })
-      (one-staged d s u p o (handle-found s h p (put .found) .held) (put .writer) (rw (becomes .staged) (put .touched)) (λ q l apart. becomes .others q l apart .staged))
+      (one-staged d s u p o (handle-found s h p (put .found) .held) (put .writer) (rw (row-put .staged) (put .touched)) (λ q l apart. row-put .others q l apart .staged))
       o
 
   put-files : (n : List ℕ) → filesFor d u n ≡ filesFor d s n
   put-files n = by (findName d directories n)
     where
       by : (found : Found) → filesIn d u found ≡ filesIn d s found
-      by (At place) = ap (λ t. filesOf (diskOf d) t place) (becomes .tracking)
+      by (At place) = ap (λ t. filesOf (diskOf d) t place) (row-put .tracking)
       by Nothing = refl
 
   put-others : (n : List ℕ) (h′ entry : ℕ) → Handled s n h′ entry → h′ ≢ h → (st : Store) → Seen d s n st → Seen d u n st
-  put-others n = seen-others d s d u h p put-frame (handle-number s h p (put .found)) (becomes .others) n (put-files n)
+  put-others n = seen-others d s d u h p put-frame (handle-number s h p (put .found)) (row-put .others) n (put-files n)
 
   pub on-handle : OnHandle d s d u h
   on-handle = record { orderly = put-orderly; frame = put-frame; others = put-others; handled = frame-handled d s d u put-frame }
 
   -- its own tape
-  pub put-own : (n : List ℕ) → placeOf s n ≡ At p → (st : Store) → row .unwritten ≡ st .held .unwritten → (st .listed ≡ true → row .base ≡ st .len) → Seen d s n st
+  pub put-row-own : (n : List ℕ) → placeOf s n ≡ At p → (st : Store) → row .unwritten ≡ st .held .unwritten → (st .listed ≡ true → row .base ≡ st .len) → Seen d s n st
       → Seen d u n (staged st (writerWith s row) (st .held))
-  put-own n at st unwritten base seen =
+  put-row-own n at st unwritten base seen =
       let rows = seen .opened p at (sym (seen .live) ∙ live-at s n p at (handle-found s h p (put .found) .held)) in
       seen-touching d s d u n p row (st .held)
       (record {
         frame = put-frame;
         at = at;
-        ring = becomes .ring ∙ rows .ring;
-        cache = becomes .cache ∙ rows .cache;
+        ring = row-put .ring ∙ rows .ring;
+        cache = row-put .cache ∙ rows .cache;
         files = put-files n ∙ seen .files;
-        staged = becomes .staged;
+        staged = row-put .staged;
         touched = put .touched;
         unwritten = unwritten;
       })
@@ -138,7 +139,7 @@ shiftedRow s p to =
 
 module _ (d s : List ℕ) (o : Orderly d s) (k h p to : ℕ) (found : findHandle s h ≡ At p) (writer : writes s k ≡ true) (listed : seenBy s 16 p .listed ≡ true)
     (within : to ≤ touchedAs s p .len) where
-  shift-put : Put s h p (shiftedRow s p to)
+  shift-put : PutRow s h p (shiftedRow s p to)
   unfolding shifted
   shift-put =
       let fits = touched-fits s (o .session-bytes) p in
@@ -152,7 +153,7 @@ module _ (d s : List ℕ) (o : Orderly d s) (k h p to : ℕ) (found : findHandle
 
   shifted-becomes : Becomes s (shifted s p to) p (ringOf s p) (ringBytes s p) (shiftedRow s p to)
   unfolding shifted
-  shifted-becomes = becomes d s o h p (shiftedRow s p to) shift-put
+  shifted-becomes = row-put d s o h p (shiftedRow s p to) shift-put
 
   shifted-on : OnHandle d s d (shifted s p to) h
   unfolding shifted
@@ -171,7 +172,7 @@ module _ (d s : List ℕ) (o : Orderly d s) (k h p to : ℕ) (found : findHandle
       (record {
         answer = refl;
         seen = subst (λ (w : Writer). Seen d (putStaged s p row) n (staged st w (st .held))) is
-            (put-own d s o h p row shift-put n at st (rows .unwritten) (its-base d s n o p at held st seen (writes-open s k writer)) seen);
+            (put-row-own d s o h p row shift-put n at st (rows .unwritten) (its-base d s n o p at held st seen (writes-open s k writer)) seen);
       })
 
 module _ (d s : List ℕ) (k h i : ℕ) (o : Orderly d s) (served : codeOf (shiftCall d s k h i .answer) ≡ 0) where

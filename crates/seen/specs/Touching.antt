@@ -24,11 +24,11 @@ use Rattle.seen.specs.Seen.{placeOf, writerAs, writerIn, touchedIn, file
 use Rattle.seen.specs.Orderly.{Orderly}
 use Rattle.seen.specs.Places.{found-low}
 use Rattle.seen.specs.Same.{seen-same}
-pub use Rattle.seen.specs.Kinds.{writes-kind, writes-as, cuts-kind, cuts-as, writes-open, cuts-open}
-pub use Rattle.seen.specs.Shown.{shown-listed}
 use Rattle.seen.specs.Rows.{size-row, list-at}
 use Rattle.seen.specs.Frames.{Frame, frame-place, frame-view, frame-live, frame-readers}
 use Rattle.seen.specs.Handles.{handle-apart, live-at}
+use Rattle.seen.specs.Kinds.{writes-kind, writes-as, cuts-kind, cuts-as}
+use Rattle.seen.specs.Shown.{shown-listed}
 
 -- ---- what is shown of a call on a handle
 
@@ -56,10 +56,6 @@ stagedLen (cutting m len) = len
 pub seen-start : (s : List ℕ) (p : ℕ) → seenBy s 16 p .start ≡ touchedAs s p .start
 unfolding seenBy touchedAs
 seen-start s p = decide (stagedOf s p .touched) (λ e. rw e) (λ e. rw e)
-
-pub touched-touched : (s : List ℕ) (p : ℕ) → touchedAs s p .touched ≡ true
-unfolding touchedAs
-touched-touched s p = decide (stagedOf s p .touched) (λ e. rw e) (λ e. rw e)
 
 pub touched-row : (s : List ℕ) (p : ℕ) → stagedOf s p .touched ≡ true → touchedAs s p ≡ stagedOf s p
 unfolding touchedAs

@@ -218,17 +218,23 @@ module _ (cache : ℕ → List ℕ) (epoch : ℕ) (side : Side) where
       ∙ session-listedFrom (putView named 17 p v) (xs ++ (t ∷ [])) ts b₂ (omega arith) (λ i u q. fit (suc i) u q) m
       ∙ ap (started cache epoch side) (append-snoc xs t ts)
 
--- the layout rule stays
-pub begun-listedFrom : (s : List ℕ) (p : ℕ) (ts : List Tape) → Begun s → p + length ts ≤ 8 → AllListable ts → Begun (listedFrom s p ts)
+-- the layout rule stays: of a list it looks at the names' lengths alone
+abbrev pub AllShort : List Tape → Type 0
+AllShort ts = (i : ℕ) (t : Tape) → getElem? ts i ≡ some t → length (t .name) ≤ 24
+
+begun-listedFrom : (s : List ℕ) (p : ℕ) (ts : List Tape) → Begun s → p + length ts ≤ 8 → AllShort ts → Begun (listedFrom s p ts)
 unfolding listedFrom listed
-begun-listedFrom s p [] ok-before few fit = ok-before
-begun-listedFrom s p (t ∷ ts) ok-before few fit =
-    let ok : Listable t = fit 0 t refl in
+begun-listedFrom s p [] ok-before few short = ok-before
+begun-listedFrom s p (t ∷ ts) ok-before few short =
     begun-listedFrom _ (p + 1) ts
-    (begun-putView _ (begun-putName s ok-before p (t .name) (omega arith) (ok .short)) 17 p (record { listed = true; len = t .len; start = t .start }) (omega arith) (omega arith))
-    (omega arith) (λ i u q. fit (suc i) u q)
+    (begun-putView _ (begun-putName s ok-before p (t .name) (omega arith) (short 0 t refl)) 17 p (record { listed = true; len = t .len; start = t .start }) (omega arith) (omega arith))
+    (omega arith) (λ i u q. short (suc i) u q)
 
 -- ---- a new session
+
+pub begun-begin : (s : List ℕ) → sessionBytes ≤ length s → (epoch : ℕ) (side : Side) (ts : List Tape) → length ts ≤ 8 → AllShort ts → Begun (beginSession s epoch side ts)
+unfolding beginSession
+begun-begin s long epoch side ts few short = begun-listedFrom (cleared s epoch side) 0 ts (begun-cleared s long epoch side) (omega arith) short
 
 module _ (s : List ℕ) (long : sessionBytes ≤ length s) (epoch : ℕ) (side : Side) (ts : List Tape) (few : length ts ≤ 8) (fit : AllListable ts) where
   pub session-begin : epoch < 256 ^ 8 → sessionOf (beginSession s epoch side ts) ≡ started (sessionOf s .cache) epoch side ts
@@ -237,13 +243,9 @@ module _ (s : List ℕ) (long : sessionBytes ≤ length s) (epoch : ℕ) (side :
       session-listedFrom (sessionOf s .cache) epoch side (cleared s epoch side) [] ts (begun-cleared s long epoch side) (omega arith) fit
       (session-cleared s long epoch side f)
 
-  pub begun-begin : Begun (beginSession s epoch side ts)
-  unfolding beginSession
-  begun-begin = begun-listedFrom (cleared s epoch side) 0 ts (begun-cleared s long epoch side) (omega arith) fit
-
   pub running-begin : epoch < 256 ^ 8 → running (beginSession s epoch side ts) ≡ some (started (sessionOf s .cache) epoch side ts)
   unfolding running
-  running-begin f = rw (begun-begin .marked, session-begin f)
+  running-begin f = rw (begun-begin s long epoch side ts few (λ i t e. fit i t e .short) .marked, session-begin f)
 
 -- and it has the list
 module _ (cache : ℕ → List ℕ) (epoch : ℕ) (side : Side) (us : List Tape) where

@@ -9,10 +9,10 @@ use Rattle.octets.specs.Bytes.{length-part}
 use Rattle.octets.specs.Number.{numAt, Bytes, bytes-take, bytes-drop}
 use Rattle.octets.specs.Only.{OnlyIn, numAt-only, bytes-put}
 use Rattle.octets.specs.Cases.{equal}
-use Rattle.octets.specs.Words.{bytes-putWords}
+use Rattle.octets.specs.Words.{word-at, bytes-putWords}
 use Rattle.layout.specs.Names.{NamesFit, putName}
 use Rattle.layout.specs.NamesLaws.{only-putName, fit-only, fit-putName}
-use Rattle.layout.specs.Session.{headAt, namesAt, viewsAt, viewAt, transactionAt, kindWord, tapeAt, handleNumber, trackingAt, ringAt, TapeFits, Begun}
+use Rattle.layout.specs.Session.{headAt, namesAt, viewsAt, viewAt, transactionAt, kindWord, tapeAt, handleNumber, ringLen, trackingAt, ringAt, TapeFits, Begun}
 use Rattle.ring_buffer.specs.Ring.{around, Sound}
 use Rattle.ring_buffer.specs.Around.{bytes-around}
 use Rattle.ring_buffer.specs.declared.bookkeeping.RingBuffer.{RingBuffer}
@@ -23,7 +23,7 @@ use Rattle.session.specs.declared.tape_rows.Handle.{Handle}
 use Rattle.session.specs.declared.tape_rows.Staged.{Staged}
 use Rattle.session.specs.declared.tracking.Tracking.{Tracking}
 use Rattle.session.specs.Rows.{headWords, putHead, viewWords, putView, copyView, kindCode, transactionWords, putTransaction, handleOf, handleWords, putHandle, ringOf, ringWords, putRing, stagedOf, stagedWords, putStaged, trackingWords, putTracking, ringBytes, fillRing, pushRing}
-use Rattle.session.specs.RowLaws.{HandleFits, RingNumbers, StagedFits, kind-le, kind-same, only-putHead, only-putView, only-copyView, only-putTransaction, only-putHandle, handle-same, handle-only, only-putRing, ring-same, ring-only, only-putStaged, staged-same, staged-only, only-putTracking, only-fillRing, length-pushed, only-pushRing}
+use Rattle.session.specs.RowLaws.{HandleFits, kind-le, kind-same, only-putHead, only-putView, only-copyView, only-putTransaction, only-putHandle, handle-same, handle-only, only-putRing, ring-only, only-putStaged, unwritten-same, staged-only, only-putTracking, only-fillRing, length-pushed, only-pushRing}
 use Rattle.session.specs.MeaningLaws.{Ready}
 
 -- the row of a tape that has a handle
@@ -36,6 +36,21 @@ pub record Open (h : Handle) (r : RingBuffer) (st : Staged) : Type 0 where
   pub inside : r .start < r .capacity
   pub short : r .len ≤ r .capacity
   pub pending : st .unwritten ≤ r .len
+
+-- with another ring and another staged record
+pub open-with : {h : Handle} {r q : RingBuffer} {st su : Staged} → Open h r st
+    → q .capacity ≤ 4096 → q .start < q .capacity → q .len ≤ q .capacity → su .unwritten ≤ q .len → Open h q su
+open-with o small inside short pending =
+    record {
+      entry-some = o .entry-some;
+      entry-small = o .entry-small;
+      file-some = o .file-some;
+      file-small = o .file-small;
+      small = small;
+      inside = inside;
+      short = short;
+      pending = pending;
+    }
 
 -- ---- the rule, said on rows
 
@@ -63,6 +78,20 @@ open-fits s p o =
       file-small = o .file-small;
       ring = record { small = o .small; inside = o .inside; short = o .short; pending = o .pending };
     }
+
+-- a ring that was put, as the rule reads it
+ring-read : (s : List ℕ) (p : ℕ) (r : RingBuffer) → tapeAt p + 24 + 32 ≤ length s → Open (handleOf s p) r (stagedOf s p)
+    → Open (handleOf s p) (ringOf (putRing s p r) p) (stagedOf s p)
+unfolding ringOf putRing
+ring-read s p r room o =
+    let word = word-at s (tapeAt p + 24) (ringWords r) in
+    let inside = o .inside in
+    let small = o .small in
+    let short = o .short in
+    let a = word 0 (tapeAt p + 24) room (omega arith) (omega arith) (omega arith) in
+    let b = word 1 (tapeAt p + 32) room (omega arith) (omega arith) (omega arith) in
+    let c = word 2 (tapeAt p + 40) room (omega arith) (omega arith) (omega arith) in
+    open-with o (rw a small) (rw (a, b) inside) (rw (a, c) short) (rw c (o .pending))
 
 -- a row is in range if it has a handle
 abbrev pub Ranged : Handle → RingBuffer → Staged → Type 0
@@ -213,29 +242,29 @@ module _ (s : List ℕ) (begun : Begun s) where
         )
         row)
 
-    pub begun-putRing : (r : RingBuffer) → RingNumbers r → (handleNumber s p ≢ 0 → Open (handleOf s p) r (stagedOf s p)) → Begun (putRing s p r)
-    begun-putRing r f row =
+    -- of a ring the rule looks at three numbers, all small; its first index may be any
+    pub begun-putRing : (r : RingBuffer) → (handleNumber s p ≢ 0 → Open (handleOf s p) r (stagedOf s p)) → Begun (putRing s p r)
+    begun-putRing r row =
         let u = putRing s p r in
         let only = only-putRing s p r in
         begun-tape _ _ s u only p low (omega arith) (omega arith) begun
-        (rw (
-          handle-only _ _ s u only p (λ q. omega arith),
-          ring-same s p r (omega (arith, begun .long)) f,
-          staged-only _ _ s u only p (λ q. omega arith),
-        )
-        (by-number s p r (stagedOf s p) row))
+        (rw (handle-only _ _ s u only p (λ q. omega arith), staged-only _ _ s u only p (λ q. omega arith))
+        (by-number s p (ringOf u p) (stagedOf s p) (λ held. ring-read s p r (omega (arith, begun .long)) (row held))))
 
-    pub begun-putStaged : (r : Staged) → StagedFits r → (handleNumber s p ≢ 0 → Open (handleOf s p) (ringOf s p) r) → Begun (putStaged s p r)
-    begun-putStaged r f row =
+    -- of a staged record at the unwritten bytes alone
+    pub begun-putStaged : (r : Staged) → (handleNumber s p ≢ 0 → r .unwritten ≤ ringLen s p) → Begun (putStaged s p r)
+    unfolding ringOf
+    begun-putStaged r pending =
         let u = putStaged s p r in
         let only = only-putStaged s p r in
         begun-tape _ _ s u only p low (omega arith) (omega arith) begun
-        (rw (
-          handle-only _ _ s u only p (λ q. omega arith),
-          ring-only _ _ s u only p (λ q. omega arith),
-          staged-same s p r (omega (arith, begun .long)) f,
-        )
-        (by-number s p (ringOf s p) r row))
+        (rw (handle-only _ _ s u only p (λ q. omega arith), ring-only _ _ s u only p (λ q. omega arith))
+        (by-number s p (ringOf s p) (stagedOf u p)
+        (λ held.
+        let o = open-row s begun p low held in
+        let few = pending held in
+        let same : stagedOf u p .unwritten ≡ r .unwritten = unwritten-same s p r (omega (arith, begun .long)) (omega arith) in
+        open-with o (o .small) (o .inside) (o .short) (rw same few))))
 
 -- ---- bytes stay bytes
 

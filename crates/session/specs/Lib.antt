@@ -1,4 +1,5 @@
 pub mod Rows
+pub mod RowWords
 pub mod RowLaws
 pub mod Begin
 pub mod Ways

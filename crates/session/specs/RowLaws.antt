@@ -26,6 +26,7 @@ use Rattle.session.specs.declared.tape_rows.Staged.{Staged}
 use Rattle.session.specs.declared.tracking.Tracking.{Tracking}
 use Rattle.session.specs.declared.tracking.Tracking.the-variants.{Untracked, Tracked, Marked}
 use Rattle.session.specs.Rows.{flag, flagWord, sideFor, sideWord, headOf, headWords, putHead, viewOf, viewWords, putView, copyView, kindFor, kindCode, transactionOf, transactionWords, putTransaction, handleOf, handleWords, putHandle, ringOf, ringWords, putRing, stagedOf, stagedWords, putStaged, trackingFor, trackingCode, trackingEpoch, trackingOf, trackingWords, putTracking, ringBytes, fillRing, pushRing}
+use Rattle.session.specs.RowWords.{head-words, view-words, transaction-words, handle-words, ring-words, staged-words, tracking-words}
 
 -- ---- rows of 64-bit numbers
 
@@ -126,16 +127,7 @@ head-same s h room f =
     )
 
 pub head-only : (low high : ℕ) (s t : List ℕ) → OnlyIn low high s t → (low < headAt + 40 → high ≤ headAt) → headOf t ≡ headOf s
-unfolding headOf
-head-only low high s t only clear =
-    let word = word-only low high s t only headAt 40 clear in
-    rw (
-      word headAt (omega arith) (omega arith),
-      word (headAt + 8) (omega arith) (omega arith),
-      word (headAt + 16) (omega arith) (omega arith),
-      word (headAt + 24) (omega arith) (omega arith),
-      word (headAt + 32) (omega arith) (omega arith),
-    )
+head-only low high s t only clear = head-words s t (word-only low high s t only headAt 40 clear)
 
 -- ---- views
 
@@ -158,10 +150,7 @@ view-same s w p v room f =
     )
 
 pub view-only : (low high : ℕ) (s t : List ℕ) → OnlyIn low high s t → (w p : ℕ) → (low < viewAt w p + 24 → high ≤ viewAt w p) → viewOf t w p ≡ viewOf s w p
-unfolding viewOf
-view-only low high s t only w p clear =
-    let word = word-only low high s t only (viewAt w p) 24 clear in
-    rw (word (viewAt w p) (omega arith) (omega arith), word (viewAt w p + 8) (omega arith) (omega arith), word (viewAt w p + 16) (omega arith) (omega arith))
+view-only low high s t only w p clear = view-words s t w p (word-only low high s t only (viewAt w p) 24 clear)
 
 -- ---- transactions
 
@@ -188,10 +177,7 @@ unfolding putTransaction
 kind-same s t r room = word-at s (transactionAt t) (transactionWords r) 0 (transactionAt t) room (omega arith) (omega (arith, kind-le (r .kind))) (omega arith)
 
 pub transaction-only : (low high : ℕ) (s u : List ℕ) → OnlyIn low high s u → (t : ℕ) → (low < transactionAt t + 24 → high ≤ transactionAt t) → transactionOf u t ≡ transactionOf s t
-unfolding transactionOf
-transaction-only low high s u only t clear =
-    let word = word-only low high s u only (transactionAt t) 24 clear in
-    rw (word (transactionAt t) (omega arith) (omega arith), word (transactionAt t + 8) (omega arith) (omega arith), word (transactionAt t + 16) (omega arith) (omega arith))
+transaction-only low high s u only t clear = transaction-words s u t (word-only low high s u only (transactionAt t) 24 clear)
 
 -- ---- a tape's row: its handle
 
@@ -213,10 +199,7 @@ handle-same s p h room f =
     )
 
 pub handle-only : (low high : ℕ) (s t : List ℕ) → OnlyIn low high s t → (p : ℕ) → (low < tapeAt p + 24 → high ≤ tapeAt p) → handleOf t p ≡ handleOf s p
-unfolding handleOf
-handle-only low high s t only p clear =
-    let word = word-only low high s t only (tapeAt p) 24 clear in
-    rw (word (tapeAt p) (omega arith) (omega arith), word (tapeAt p + 8) (omega arith) (omega arith), word (tapeAt p + 16) (omega arith) (omega arith))
+handle-only low high s t only p clear = handle-words s t p (word-only low high s t only (tapeAt p) 24 clear)
 
 -- ---- its ring
 
@@ -239,10 +222,7 @@ ring-same s p r room f =
     )
 
 pub ring-only : (low high : ℕ) (s t : List ℕ) → OnlyIn low high s t → (p : ℕ) → (low < tapeAt p + 24 + 32 → high ≤ tapeAt p + 24) → ringOf t p ≡ ringOf s p
-unfolding ringOf
-ring-only low high s t only p clear =
-    let word = word-only low high s t only (tapeAt p + 24) 32 clear in
-    rw (word (tapeAt p + 24) (omega arith) (omega arith), word (tapeAt p + 32) (omega arith) (omega arith), word (tapeAt p + 40) (omega arith) (omega arith), word (tapeAt p + 48) (omega arith) (omega arith))
+ring-only low high s t only p clear = ring-words s t p (word-only low high s t only (tapeAt p + 24) 32 clear)
 
 -- ---- its staged record
 
@@ -266,11 +246,13 @@ staged-same s p r room f =
       flag-back (r .touched),
     )
 
+-- one number of it: those beside it may be of any size
+pub unwritten-same : (s : List ℕ) (p : ℕ) (r : Staged) → tapeAt p + 56 + 40 ≤ length s → r .unwritten < 256 ^ 8 → stagedOf (putStaged s p r) p .unwritten ≡ r .unwritten
+unfolding stagedOf putStaged
+unwritten-same s p r room f = word-at s (tapeAt p + 56) (stagedWords r) 4 (tapeAt p + 88) room (omega arith) f (omega arith)
+
 pub staged-only : (low high : ℕ) (s t : List ℕ) → OnlyIn low high s t → (p : ℕ) → (low < tapeAt p + 56 + 40 → high ≤ tapeAt p + 56) → stagedOf t p ≡ stagedOf s p
-unfolding stagedOf
-staged-only low high s t only p clear =
-    let word = word-only low high s t only (tapeAt p + 56) 40 clear in
-    rw (word (tapeAt p + 56) (omega arith) (omega arith), word (tapeAt p + 64) (omega arith) (omega arith), word (tapeAt p + 72) (omega arith) (omega arith), word (tapeAt p + 80) (omega arith) (omega arith), word (tapeAt p + 88) (omega arith) (omega arith))
+staged-only low high s t only p clear = staged-words s t p (word-only low high s t only (tapeAt p + 56) 40 clear)
 
 -- ---- tracking and marks
 
@@ -292,10 +274,7 @@ tracking-same s i r room f =
     )
 
 pub tracking-only : (low high : ℕ) (s t : List ℕ) → OnlyIn low high s t → (i : ℕ) → (low < trackingAt i + 16 → high ≤ trackingAt i) → trackingOf t i ≡ trackingOf s i
-unfolding trackingOf
-tracking-only low high s t only i clear =
-    let word = word-only low high s t only (trackingAt i) 16 clear in
-    rw (word (trackingAt i) (omega arith) (omega arith), word (trackingAt i + 8) (omega arith) (omega arith))
+tracking-only low high s t only i clear = tracking-words s t i (word-only low high s t only (trackingAt i) 16 clear)
 
 -- ---- a whole view over another
 

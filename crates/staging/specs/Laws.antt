@@ -8,10 +8,8 @@ use Prim.Native.Nat.{ℕ, _+_, _*_, _-_, _/_, _≤_, _<_, _^_}
 use native.Mathlib.Nat.{div-mul-le-self, mul-le-mul-right}
 use native.Mathlib.Omega.{arith}
 use lib.Dec.{eqb}
-use lib.ListN.{length}
 use Rattle.octets.specs.Cases.{picked, decide}
 use Rattle.octets.specs.Number.{Bytes, numAt-lt}
-use Rattle.octets.specs.Words.{word-at}
 use Rattle.octets.specs.declared.Found.{Found}
 use Rattle.octets.specs.declared.Found.the-variants.{At, Nothing}
 use Rattle.answers.specs.Answers.{codeOf}
@@ -20,15 +18,14 @@ use Rattle.answers.specs.declared.Answer.the-variants.{Done}
 use Rattle.answers.specs.declared.Refusal.{Refusal}
 use Rattle.answers.specs.declared.Refusal.the-variants.{Unusable, Unknown, Absent, StartPastLength, LongerCut}
 use Rattle.components.specs.Bounds.{upTo, shiftedStart}
-use Rattle.components.specs.BoundsLaws.{→upTo, upTo-true}
-use Rattle.layout.specs.Session.{tapeAt, viewAt, handleNumber, Begun, begun}
+use Rattle.components.specs.BoundsLaws.{→upTo}
+use Rattle.layout.specs.Session.{viewAt, handleNumber, ringLen, Begun, begun}
 use Rattle.layout.specs.SessionLaws.{begun→, →begun}
-use Rattle.session.specs.Rows.{viewOf, handleOf, ringOf, stagedOf, stagedWords, putStaged, findHandle}
-use Rattle.session.specs.RowLaws.{StagedFits, only-putStaged, handle-only, ring-only}
+use Rattle.session.specs.Rows.{viewOf, handleOf, stagedOf, findHandle}
+use Rattle.session.specs.RowLaws.{StagedFits}
 use Rattle.session.specs.Meaning.{sessionOf, withStaged}
 use Rattle.session.specs.MeaningLaws.{session-putStaged}
-use Rattle.session.specs.KeepLaws.{open-row, by-number, begun-ready, begun-tape}
-use Rattle.session.specs.declared.tape_rows.Staged.{Staged}
+use Rattle.session.specs.KeepLaws.{begun-ready, begun-putStaged}
 use Rattle.session.specs.declared.views.View.{View}
 use Rattle.beginning.specs.Transactions.{After, after, refused, usable}
 use Rattle.staging.specs.Seeing.{writes, cuts, seenBy, touchedAs, lenCall, startCall}
@@ -164,48 +161,22 @@ module _ (d s : List ℕ) (t h i : ℕ) where
 
 -- ---- the layout rule is kept, whatever the numbers are
 
--- of a staged record the rule looks at the unwritten bytes alone
-unwritten-same : (s : List ℕ) (p : ℕ) (r : Staged) → tapeAt p + 56 + 40 ≤ length s → r .unwritten < 256 ^ 8 → stagedOf (putStaged s p r) p .unwritten ≡ r .unwritten
-unfolding stagedOf putStaged
-unwritten-same s p r room f = word-at s (tapeAt p + 56) (stagedWords r) 4 (tapeAt p + 88) room (omega arith) f (omega arith)
+-- the bytes that the files lack are held: a tape that is touched now has none
+pub touched-held : (s : List ℕ) (p : ℕ) → Begun s → p < 8 → handleNumber s p ≢ 0 → touchedAs s p .unwritten ≤ ringLen s p
+unfolding touchedAs stagedOf
+touched-held s p b low held =
+    decide (stagedOf s p .touched)
+    (λ e. rw e (b .tapes p low held .ring .pending))
+    (λ e. rw e (omega arith))
 
 module _ (s : List ℕ) (begun : Begun s) (p : ℕ) (low : p < 8) where
-  begun-stage : (r : Staged) → (handleNumber s p ≢ 0 → r .unwritten ≤ ringOf s p .len) → Begun (putStaged s p r)
-  begun-stage r pending =
-      let u = putStaged s p r in
-      let only = only-putStaged s p r in
-      begun-tape _ _ s u only p low (omega arith) (omega arith) begun
-      (rw (handle-only _ _ s u only p (λ q. omega arith), ring-only _ _ s u only p (λ q. omega arith))
-      (by-number s p (ringOf s p) (stagedOf u p)
-      (λ held.
-      let o = open-row s begun p low held in
-      let few = pending held in
-      let same : stagedOf u p .unwritten ≡ r .unwritten = unwritten-same s p r (omega (arith, begun .long)) (omega arith) in
-      record {
-        entry-some = o .entry-some;
-        entry-small = o .entry-small;
-        file-some = o .file-some;
-        file-small = o .file-small;
-        small = o .small;
-        inside = o .inside;
-        short = o .short;
-        pending = rw same few;
-      })))
-
-  -- a tape that is touched now has nothing unwritten
-  touched-pending : handleNumber s p ≢ 0 → touchedAs s p .unwritten ≤ ringOf s p .len
-  touched-pending held =
-      decide (stagedOf s p .touched)
-      (λ e. rw (← touched-before s p (stagedOf s p) refl e) (open-row s begun p low held .pending))
-      (λ e. rw (← touched-now s p (stagedOf s p) refl (viewOf s 16 p) refl e) (omega arith))
-
   pub begun-shifted : (start : ℕ) → Begun (shifted s p start)
   unfolding shifted
-  begun-shifted start = begun-stage _ touched-pending
+  begun-shifted start = begun-putStaged s begun p low _ (touched-held s p begun low)
 
   pub begun-cutTo : (len : ℕ) → Begun (cutTo s p len)
   unfolding cutTo
-  begun-cutTo len = begun-stage _ (λ held. omega arith)
+  begun-cutTo len = begun-putStaged s begun p low _ (λ held. omega arith)
 
 module _ (d s : List ℕ) (t h i : ℕ) where
   abbrev Begins : After → Type 0
@@ -250,10 +221,6 @@ module _ (s : List ℕ) (bytes : Bytes s) (p : ℕ) where
   pub seen-fits : (t : ℕ) → seenBy s t p .len < 256 ^ 8
   unfolding seenBy
   seen-fits t = picked (λ (v : View). v .len < 256 ^ 8) (eqb t 16 && stagedOf s p .touched) _ _ (λ e. staged-fits .len) (λ e. view-len t)
-
-  -- the bytes that a served index comes to
-  pub goes-fits : {d : List ℕ} {w : Bool} {h i : ℕ} → Goes d s w h p i → i * handleOf s p .entry < 256 ^ 8
-  goes-fits {i = i} g = omega (arith, upTo-true (handleOf s p .entry) i (seenBy s 16 p .len) (g .within), seen-fits 16)
 
   module _ (begun : Begun s) (low : p < 8) where
     pub session-shifted : (start : ℕ) → start < 256 ^ 8 → sessionOf (shifted s p start) ≡ withStaged (sessionOf s) p (record { touched = true; base = touchedAs s p .base; len = touchedAs s p .len; start = shiftedStart (touchedAs s p .start) start; unwritten = touchedAs s p .unwritten })

@@ -1,5 +1,5 @@
 -- The ways out of each function, in the code's order: a law for each. Assumes nothing.
-use mathlib.Core.Path.{_≡_, sym, ap, _∙_}
+use mathlib.Core.Path.{_≡_, refl, sym, ap, _∙_}
 use mathlib.Core.Logic.{_≢_}
 use mathlib.Core.Bool.{true, false, not, true≢false, and-false}
 use mathlib.Core.List.{List}
@@ -19,6 +19,8 @@ use Rattle.session.specs.declared.views.View.{View}
 use Rattle.session.specs.declared.tape_rows.Handle.{Handle}
 use Rattle.session.specs.declared.tape_rows.Staged.{Staged}
 use Rattle.session.specs.declared.transactions.Transaction.{Transaction}
+use Rattle.session.specs.declared.transactions.Kind.{Kind}
+use Rattle.session.specs.declared.transactions.Kind.the-variants.{Closed, Reader, Append, Truncate}
 use Rattle.beginning.specs.Transactions.{after, refused, usable}
 use Rattle.staging.specs.Seeing.{isAppend, isTruncate, writes, cuts, seenBy, touchedAs, inEntries, lenOn, startOn, lenCall, startCall}
 use Rattle.staging.specs.Shifting.{shifted, shiftOn, shiftCall}
@@ -89,6 +91,17 @@ module _ (s : List ℕ) (n : ℕ) (r : Transaction) (row : r ≡ transactionOf s
   pub cuts-number : isTruncate (r .kind) ≡ true → cuts s n ≡ eqb (r .number) n
   unfolding cuts
   cuts-number h = rw (← row, h)
+
+-- a truncate is no append
+pub cuts-alone : (s : List ℕ) (n : ℕ) → cuts s n ≡ true → writes s n ≡ false
+unfolding cuts
+cuts-alone s n c = writes-not s n (transactionOf s 16) refl (by (transactionOf s 16 .kind) (and-l (isTruncate (transactionOf s 16 .kind)) _ c))
+  where
+    by : (k : Kind) → isTruncate k ≡ true → isAppend k ≡ false
+    by Closed e = refl
+    by Reader e = refl
+    by Append e = absurd (true≢false (sym e))
+    by Truncate e = refl
 
 -- ---- on a tape, by what the code sees and the handle's row
 

@@ -9,6 +9,7 @@ use Rattle.metadata.specs.declared.choice.Side.the-variants.{Left, Right}
 use Rattle.layout.specs.Disk as D
 use Rattle.layout.specs.Names.{findName}
 use Rattle.layout.specs.Session.{sessionBytes, namesAt}
+use Rattle.layout.specs.NamesLaws.{name-low}
 use Rattle.session.specs.Rows.{freeReader, findHandle, findTransaction, headOf}
 use Rattle.beginning.specs.Disks.{formatCall}
 use Rattle.beginning.specs.Calls.{appendCall, truncateCall, readerCall}
@@ -20,7 +21,7 @@ use Rattle.staging.specs.Ways.{handle-found, transaction-low}
 use Rattle.entries.specs.Popping.{popCall}
 use Rattle.appending.specs.Calls.{putCall}
 use Rattle.opening.specs.Calls.{placeFor, openCall}
-use Rattle.opening.specs.CallWays.{name-low, place-low}
+use Rattle.opening.specs.CallWays.{place-low}
 use Rattle.ending.specs.Dropping.{dropTransactionCall}
 use Rattle.ending.specs.Committing.{commitCall}
 use Rattle.touches.specs.Parts.{Part, bytes, Inside, Outside, Touches, Stays, mark, belowRings, tables, files, found, stays, stays-found}

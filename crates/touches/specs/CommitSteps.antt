@@ -1,35 +1,28 @@
 -- What the steps of a commit touch, one by one and together: of an append data, list, record and removal, of a truncate list, record and the rings that
 -- are cut. Assumes nothing.
 use Prim.{tt}
-use mathlib.Core.Path.{_≡_, refl, sym, ap, _∙_}
-use mathlib.Core.Logic.{_≢_}
-use mathlib.Core.Bool.{Bool, true, false, true≢false, not}
+use mathlib.Core.Path.{_≡_, refl, ap, _∙_}
+use mathlib.Core.Bool.{true, false}
 use mathlib.Core.List.{List, [], _∷_}
-use Prim.Native.Nat.{ℕ, _+_, _≤_, _<_}
+use Prim.Native.Nat.{ℕ, _≤_, _<_}
 use native.Mathlib.Omega.{arith}
-use borrow.Author.Tests.{eq-eqb}
-use lib.Dec.{eqb}
 use lib.ListN.{length}
 use Rattle.octets.specs.Bytes.{put}
-use Rattle.octets.specs.Cases.{picked, and-l}
+use Rattle.octets.specs.Cases.{picked}
 use Rattle.octets.specs.Only.{OnlyIn, only-none, only-then, only-wider}
 use Rattle.octets.specs.Sweep.{sweep-keeps}
 use Rattle.octets.specs.declared.Found.{Found}
 use Rattle.octets.specs.declared.Found.the-variants.{At, Nothing}
 use Rattle.components.specs.Pieces.{fileOf}
-use Rattle.metadata.specs.Tapes.{encodeList}
-use Rattle.metadata.specs.Struct.{tapesOf, storable}
-use Rattle.metadata.specs.Record.{encodeRecord}
-use Rattle.metadata.specs.RecordLaws.{record-most}
+use Rattle.metadata.specs.Struct.{storable}
 use Rattle.metadata.specs.declared.list.TapeList.{TapeList}
 use Rattle.metadata.specs.declared.choice.Side.{Side}
 use Rattle.layout.specs.Disk as D
-use Rattle.layout.specs.Session.{viewsAt, handleNumber, fileSize, Begun}
+use Rattle.layout.specs.Session.{fileSize, Begun}
 use Rattle.disk.specs.Steps.{sideAt, writeSide}
-use Rattle.disk.specs.StepLaws.{only-sideLen, only-sideData, only-writeSide}
-use Rattle.disk.specs.SoundLaws.{slots-only}
+use Rattle.disk.specs.StepLaws.{only-sideLen, only-sideData}
 use Rattle.session.specs.Rows.{headOf, viewOf, transactionOf, stagedOf, putStaged}
-use Rattle.session.specs.RowLaws.{only-putHead, only-putView, only-putRing, only-putStaged, head-only}
+use Rattle.session.specs.RowLaws.{only-putHead, only-putRing, only-putStaged, head-only}
 use Rattle.session.specs.Meaning.{untouched}
 use Rattle.session.specs.declared.head.Head.{Head}
 use Rattle.rolling_tape.specs.Removal.{Areas, areas}
@@ -41,8 +34,9 @@ use Rattle.cached_tape.specs.FlushLaws.{begun-kept, only-flushed}
 use Rattle.staging.specs.Seeing.{directoryOf}
 use Rattle.ending.specs.Listing.{isTouched}
 use Rattle.ending.specs.Oldest.{oldestOf}
-use Rattle.ending.specs.Steps.{flushIn, flushTape, flushAll, publishTape, publishAll, recorded, advanced, ripenedAt, ripenIn, ripenTape, ripenAll, cutRing, clearIn, cutTape, cutAll}
+use Rattle.ending.specs.Steps.{flushIn, flushTape, flushAll, publishAll, recorded, advanced, ripenedAt, ripenIn, ripenTape, ripenAll, cutRing, clearIn, cutTape, cutAll}
 use Rattle.ending.specs.Committing.{stored, storedAppend, ripenedAppend, appended, truncatedBy}
+use Rattle.ending.specs.StepLaws.{touched-held, only-publishAll, record-short, slots-recorded}
 use Rattle.touches.specs.Parts.{Part, Outside, Touches, head, bookkeepings, stageds, tracking, sideOf, sideLengthOf, files, touches-none, touches-then, touches-only, touches-more}
 use Rattle.touches.specs.Parts as P
 use Rattle.touches.specs.Files.{Lengths, sound-lengths, Written, written-none, written-then, written-flushed}
@@ -79,13 +73,6 @@ flushed-then a b c f g =
       only = only-then 4936 5960 (a .session) (b .session) (c .session) (f .only) (g .only);
     }
 
--- a tape that was touched has a handle
-touched-held : (s : List ℕ) (p : ℕ) → isTouched s p ≡ true → handleNumber s p ≢ 0
-unfolding isTouched
-touched-held s p e z =
-    let some : not (eqb (handleNumber s p) 0) ≡ true = and-l (not (eqb (handleNumber s p) 0)) _ e in
-    true≢false (sym some ∙ ap not (eq-eqb (handleNumber s p) 0 z))
-
 flushed-tape : (a : Areas) → Lengths (a .disk) → Begun (a .session) → (p : ℕ) → p < 8 → Flushed a (flushTape p a)
 unfolding flushTape
 flushed-tape a r begun p low =
@@ -109,15 +96,6 @@ flushed-all a r begun =
 
 -- ---- list and record
 
-only-published : (cut : Bool) (s : List ℕ) → OnlyIn (viewsAt 17) (viewsAt 17 + 192) s (publishAll cut s)
-unfolding publishTape
-only-published cut s =
-    let low = viewsAt 17 in
-    let high = viewsAt 17 + 192 in
-    sweep-keeps (λ (t : List ℕ). OnlyIn low high s t) (publishTape cut) 8 0 s
-    (λ j t l h only. only-then low high s t _ only (only-wider _ _ low high t _ (omega arith) (omega arith) (only-putView t 17 j _)))
-    (only-none low high s)
-
 touches-writeSide : (d : List ℕ) (side : Side) (bs : List ℕ) → length bs ≤ 512 → Touches (recordParts side) d (writeSide d side bs)
 touches-writeSide d side bs fit =
     let t = put d (sideAt side) bs in
@@ -126,16 +104,9 @@ touches-writeSide d side bs fit =
     (touches-only (recordParts side) _ _ t _ (only-sideLen d side bs) (λ i o l. o .0 l))
 
 module _ (d s : List ℕ) (list : TapeList) (ok : storable list ≡ true) where
-  short : length (encodeRecord (headOf s .epoch + 1) (encodeList (tapesOf list))) ≤ 512
-  short = omega (arith, record-most (headOf s .epoch + 1) list ok)
-
   touches-recorded : Touches (recordParts (headOf s .side)) d (recorded d s list)
   unfolding recorded
-  touches-recorded = touches-writeSide d (headOf s .side) _ short
-
-  slots-recorded : D.slots (recorded d s list) ≡ D.slots d
-  unfolding recorded
-  slots-recorded = slots-only _ _ d _ (only-writeSide d _ short (headOf s .side)) (omega arith)
+  touches-recorded = touches-writeSide d (headOf s .side) _ (record-short d s list ok)
 
 -- ---- removal
 
@@ -201,7 +172,7 @@ module _ (d s : List ℕ) (list : TapeList) (sound : D.Sound d) (begun : Begun s
 
   head-same : headOf s₂ ≡ headOf s
   head-same =
-      head-only _ _ (a₁ .session) s₂ (only-published false (a₁ .session)) (λ q. omega arith)
+      head-only _ _ (a₁ .session) s₂ (only-publishAll false (a₁ .session)) (λ q. omega arith)
       ∙ head-only _ _ s (a₁ .session) (f₁ .only) (λ q. omega arith)
 
   abbrev a₃ : Areas
@@ -219,7 +190,7 @@ module _ (d s : List ℕ) (list : TapeList) (sound : D.Sound d) (begun : Begun s
   unfolding storedAppend stored advanced
   touches-stored-session =
       touches-then appendParts s (a₁ .session) _ (touches-only appendParts _ _ s _ (f₁ .only) (λ i o l. o .1 .1 .1 .1 .0 l))
-      (touches-then appendParts (a₁ .session) s₂ _ (touches-only appendParts _ _ (a₁ .session) s₂ (only-published false (a₁ .session)) (λ i o l. o .1 .1 .1 .0 l))
+      (touches-then appendParts (a₁ .session) s₂ _ (touches-only appendParts _ _ (a₁ .session) s₂ (only-publishAll false (a₁ .session)) (λ i o l. o .1 .1 .1 .0 l))
       (touches-only appendParts _ _ s₂ _ (only-putHead s₂ _) (λ i o l. o .1 .1 .0 l)))
 
   touches-stored-disk : Touches (appendDiskParts d (headOf s .side)) d (a₃ .disk)
@@ -280,7 +251,7 @@ module _ (d s : List ℕ) (list : TapeList) (few : D.slots d ≤ 64) (ok : stora
       let p₂ = advanced true p₁ in
       let e = recorded d p₁ list in
       let p₃ = cutAll e p₂ in
-      touches-then truncateParts s p₁ _ (touches-only truncateParts _ _ s p₁ (only-published true s) (λ i o l. o .1 .1 .1 .0 l))
+      touches-then truncateParts s p₁ _ (touches-only truncateParts _ _ s p₁ (only-publishAll true s) (λ i o l. o .1 .1 .1 .0 l))
       (touches-then truncateParts p₁ p₂ _ (touches-only truncateParts _ _ p₁ p₂ (only-putHead p₁ _) (λ i o l. o .1 .1 .0 l))
       (touches-then truncateParts p₂ p₃ _ (touches-cutAll e p₂ (rw (slots-recorded d p₁ list ok) few))
       (touches-more closeParts truncateParts p₃ _ (λ i o. (o .0, (o .1 .0, tt))) (touches-closeWriter p₃))))
@@ -289,5 +260,5 @@ module _ (d s : List ℕ) (list : TapeList) (few : D.slots d ≤ 64) (ok : stora
   unfolding truncatedBy stored
   touches-truncated-disk =
       let side : headOf p₁ .side ≡ headOf s .side
-      = ap (λ (h : Head). h .side) (head-only _ _ s p₁ (only-published true s) (λ q. omega arith)) in
+      = ap (λ (h : Head). h .side) (head-only _ _ s p₁ (only-publishAll true s) (λ q. omega arith)) in
       rw side at (touches-recorded d p₁ list ok)

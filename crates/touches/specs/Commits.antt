@@ -1,74 +1,26 @@
 -- What `commit` touches. Of the session its own fields, the published list, the writer's place, the staged records and tracking, and, of a truncate, the
 -- bookkeeping of the rings; of the disk the side whose turn it is, and, of an append, the files. Assumes nothing.
 use Prim.{tt}
-use mathlib.Core.Path.{_≡_, refl}
-use mathlib.Core.Bool.{Bool, true, false, cond, _&&_}
+use mathlib.Core.Path.{_≡_}
+use mathlib.Core.Bool.{true, false, cond}
 use mathlib.Core.List.{List}
 use Prim.Native.Nat.{ℕ, _+_, _≤_, _<_}
 use native.Mathlib.Omega.{arith}
-use Rattle.octets.specs.Cases.{picked, decide, and-r}
-use Rattle.answers.specs.Outcome.{Outcome, refusedAt}
-use Rattle.answers.specs.declared.Answer.{Answer}
-use Rattle.answers.specs.declared.Answer.the-variants.{Done, Refused}
-use Rattle.answers.specs.declared.Refusal.{Refusal}
-use Rattle.answers.specs.declared.Refusal.the-variants.{Unusable, Unknown, NoSlot}
-use Rattle.metadata.specs.Struct.{listOf, storable}
-use Rattle.metadata.specs.declared.list.TapeList.{TapeList}
+use Rattle.octets.specs.Cases.{decide}
+use Rattle.answers.specs.Outcome.{Outcome}
 use Rattle.metadata.specs.declared.choice.Side.{Side}
 use Rattle.metadata.specs.declared.choice.Side.the-variants.{Left, Right}
 use Rattle.disk.specs.Steps.{sideAt, sideLenAt}
 use Rattle.session.specs.Rows.{headOf}
-use Rattle.beginning.specs.Transactions.{usable}
-use Rattle.beginning.specs.Ways.{usable-begun}
-use Rattle.staging.specs.Seeing.{writes, cuts}
-use Rattle.appending.specs.Room.{noRoom}
-use Rattle.opening.specs.CallWays.{usable-disk}
-use Rattle.ending.specs.Listing.{nextList}
-use Rattle.ending.specs.Checking.{isWhole, mayCommit}
+use Rattle.beginning.specs.Ways.{usable-begun, usable-disk}
+use Rattle.staging.specs.Seeing.{writes}
+use Rattle.staging.specs.Ways.{cuts-alone}
 use Rattle.ending.specs.Steps.{otherSide}
-use Rattle.ending.specs.Committing.{appended, appendedIf, commitAppend, truncatedBy, truncatedIf, commitTruncate, commitCall}
+use Rattle.ending.specs.Committing.{commitCall}
+use Rattle.ending.specs.CommitLaws.{theList, commit-cases}
 use Rattle.touches.specs.Parts.{Part, Inside, Outside, Touches, Stays, mark, names, handles, rings, directories, sideOf, sideLengthOf, stays, touches-none, touches-more}
 use Rattle.touches.specs.Parts as P
 use Rattle.touches.specs.CommitSteps.{appendParts, truncateParts, recordParts, appendDiskParts, touches-appended-session, touches-appended-disk, touches-truncated-session, touches-truncated-disk}
-
--- ---- what holds of each way out holds of the call
-
--- a list that is committed may be stored
-may-storable : (d s : List ℕ) (cut : Bool) (list : TapeList) (v : ℕ) → mayCommit d s cut list ≡ Done v → storable list ≡ true
-unfolding mayCommit
-may-storable d s cut list v e =
-    decide (isWhole s cut list && storable list)
-    (λ (ok : (isWhole s cut list && storable list) ≡ true). and-r (isWhole s cut list) (storable list) ok)
-    (λ (bad : (isWhole s cut list && storable list) ≡ false).
-    let r : Refused Unusable ≡ Done v = rw bad at e in
-    let z : _≡_ {A = ℕ} 0 1 = cc in
-    absurd (omega arith))
-
--- the lists that the two kinds publish
-abbrev pub appendList : List ℕ → TapeList
-appendList s = listOf (nextList s false)
-
-abbrev pub truncateList : List ℕ → TapeList
-truncateList s = listOf (nextList s true)
-
-module _ (P : Outcome → Type 0) (d s : List ℕ) (t : ℕ) (no : (why : Refusal) → P (refusedAt why d s)) where
-  pub commit-cases : (usable d s ≡ true → writes s t ≡ true → storable (appendList s) ≡ true → P (appended d s (appendList s)))
-      → (usable d s ≡ true → writes s t ≡ false → storable (truncateList s) ≡ true → P (truncatedBy d s (truncateList s))) → P (commitCall d s t)
-  unfolding commitCall commitAppend commitTruncate
-  commit-cases append truncate =
-      picked P (usable d s) _ _
-      (λ ok.
-      picked P (writes s t) _ _ (λ w. by ok w (mayCommit d s false (appendList s)) refl)
-      (λ w. picked P (cuts s t) _ _ (λ c. cut ok w (mayCommit d s true (truncateList s)) refl) (λ c. no Unknown)))
-      (λ ok. no Unusable)
-    where
-      by : usable d s ≡ true → writes s t ≡ true → (a : Answer) → mayCommit d s false (appendList s) ≡ a → P (appendedIf d s (appendList s) a)
-      by ok w (Done v) e = picked P (noRoom d s 8 0) _ _ (λ full. no NoSlot) (λ room. append ok w (may-storable d s false (appendList s) v e))
-      by ok w (Refused why) e = no why
-
-      cut : usable d s ≡ true → writes s t ≡ false → (a : Answer) → mayCommit d s true (truncateList s) ≡ a → P (truncatedIf d s (truncateList s) a)
-      cut ok w (Done v) e = truncate ok w (may-storable d s true (truncateList s) v e)
-      cut ok w (Refused why) e = no why
 
 -- ---- the call
 
@@ -82,15 +34,15 @@ commitDiskParts d s t = cond (writes s t) (appendDiskParts d (headOf s .side)) (
 module _ (d s : List ℕ) (t : ℕ) where
   pub commit-touches-session : Touches (commitParts s t) s (commitCall d s t .session)
   commit-touches-session =
-      commit-cases (λ (o : Outcome). Touches (commitParts s t) s (o .session)) d s t (λ why. touches-none (commitParts s t) s)
-      (λ ok w list. rw w (touches-appended-session d s (appendList s) (usable-disk d s ok) (usable-begun d s ok) list))
-      (λ ok w list. rw w (touches-truncated-session d s (truncateList s) (usable-disk d s ok .head .few) list))
+      commit-cases (λ (o : Outcome). Touches (commitParts s t) s (o .session)) d s (λ why. touches-none (commitParts s t) s) t
+      (λ ok w v g room. rw w (touches-appended-session d s (theList s false) (usable-disk d s ok) (usable-begun d s ok) (g .good)))
+      (λ ok c v g. rw (cuts-alone s t c) (touches-truncated-session d s (theList s true) (usable-disk d s ok .head .few) (g .good)))
 
   pub commit-touches-disk : Touches (commitDiskParts d s t) d (commitCall d s t .disk)
   commit-touches-disk =
-      commit-cases (λ (o : Outcome). Touches (commitDiskParts d s t) d (o .disk)) d s t (λ why. touches-none (commitDiskParts d s t) d)
-      (λ ok w list. rw w (touches-appended-disk d s (appendList s) (usable-disk d s ok) (usable-begun d s ok) list))
-      (λ ok w list. rw w (touches-truncated-disk d s (truncateList s) (usable-disk d s ok .head .few) list))
+      commit-cases (λ (o : Outcome). Touches (commitDiskParts d s t) d (o .disk)) d s (λ why. touches-none (commitDiskParts d s t) d) t
+      (λ ok w v g room. rw w (touches-appended-disk d s (theList s false) (usable-disk d s ok) (usable-begun d s ok) (g .good)))
+      (λ ok c v g. rw (cuts-alone s t c) (touches-truncated-disk d s (theList s true) (usable-disk d s ok .head .few) (g .good)))
 
 -- ---- what it leaves
 

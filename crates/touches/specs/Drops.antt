@@ -23,9 +23,9 @@ use Rattle.session.specs.Meaning.{closed, noHandle, noRing, untouched}
 use Rattle.rolling_tape.specs.TrackingLaws.{only-retracked}
 use Rattle.rolling_tape.specs.declared.tracking.Change.the-variants.{UntrackAll}
 use Rattle.beginning.specs.Transactions.{After, usable}
+use Rattle.beginning.specs.Ways.{usable-disk}
 use Rattle.staging.specs.Seeing.{directoryOf, isAppend}
 use Rattle.staging.specs.Ways.{transaction-low}
-use Rattle.opening.specs.CallWays.{usable-disk}
 use Rattle.ending.specs.Listing.{isTouched}
 use Rattle.ending.specs.Steps.{unstage, closeWriter}
 use Rattle.ending.specs.Dropping.{reverted, untrackIn, forgotten, takeBack, dropAppend, dropAt, dropFound, dropTransactionCall}

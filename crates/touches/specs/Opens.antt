@@ -3,25 +3,20 @@
 use Prim.{tt}
 use mathlib.Core.Path.{_≡_, refl, ap, _∙_}
 use mathlib.Core.Logic.{_≢_}
-use mathlib.Core.Bool.{true, _&&_}
+use mathlib.Core.Bool.{true}
 use mathlib.Core.List.{List, [], _∷_}
 use Prim.Native.Nat.{ℕ, _+_, _≤_, _<_}
 use native.Mathlib.Omega.{arith}
-use lib.Dec.{eqb}
 use lib.ListN.{length}
 use Rattle.octets.specs.Cases.{picked, decide}
 use Rattle.octets.specs.Only.{OnlyIn, only-none, only-then, only-wider}
 use Rattle.octets.specs.Sweep.{sweep-keeps}
 use Rattle.octets.specs.declared.Found.{Found}
 use Rattle.octets.specs.declared.Found.the-variants.{At, Nothing}
-use Rattle.answers.specs.Outcome.{Outcome, refusedAt}
-use Rattle.answers.specs.declared.Answer.{Answer}
-use Rattle.answers.specs.declared.Answer.the-variants.{Done, Refused}
-use Rattle.answers.specs.declared.Refusal.{Refusal}
-use Rattle.answers.specs.declared.Refusal.the-variants.{Unusable, Unknown, Full, AlreadyOpen, Missing, TooLarge}
+use Rattle.answers.specs.Outcome.{Outcome}
 use Rattle.layout.specs.Disk as D
 use Rattle.layout.specs.Names.{findName, putName}
-use Rattle.layout.specs.NamesLaws.{only-putName}
+use Rattle.layout.specs.NamesLaws.{only-putName, name-low}
 use Rattle.layout.specs.Session.{namesAt, tapeAt}
 use Rattle.disk.specs.Steps.{addAt, addDirectory, emptySlot, emptyDirectory}
 use Rattle.disk.specs.StepLaws.{only-emptySlot, directory-low}
@@ -31,19 +26,17 @@ use Rattle.rolling_tape.specs.Removal.{Areas, areas}
 use Rattle.rolling_tape.specs.RemovalLaws.{only-entries}
 use Rattle.cached_tape.specs.Filling.{filledWith}
 use Rattle.beginning.specs.Transactions.{usable}
-use Rattle.staging.specs.Seeing.{writes}
+use Rattle.beginning.specs.Ways.{usable-disk}
 use Rattle.opening.specs.declared.shape.Opening.{Opening}
-use Rattle.opening.specs.Shape.{openingOf, shapeOf}
-use Rattle.opening.specs.ShapeLaws.{Shaped, shape-done}
-use Rattle.opening.specs.NamesLeft.{isNothing, isNinth}
+use Rattle.opening.specs.Shape.{openingOf}
+use Rattle.opening.specs.ShapeLaws.{Shaped}
 use Rattle.opening.specs.Directory.{takenFiles, emptied, added, readied}
 use Rattle.opening.specs.DirectoryLaws.{only-readied-session}
-use Rattle.opening.specs.Calls.{cachedFrom, cachedBytes, canFill, rowed, openWith, openNow, openIn, viewFound, isOpenTape, placeFor, openPlaced, openAt, openShaped, openOn, openCall}
+use Rattle.opening.specs.Calls.{cachedFrom, cachedBytes, rowed, openWith, openNow, viewFound, placeFor, openCall}
 use Rattle.opening.specs.PlacingLaws.{cached-most, length-cached}
-use Rattle.opening.specs.CallWays.{name-low, usable-disk, place-low, open-unusable}
+use Rattle.opening.specs.CallWays.{place-low, open-unusable}
+use Rattle.opening.specs.Laws.{open-cases, opens-shaped}
 use Rattle.touches.specs.Parts.{Part, Inside, Outside, Touches, Stays, mark, head, nameOf, views, transactions, tapeOf, tracking, ringOf, fields, directories, sides, fileTable, slotsOf, found, stays, stays-found, touches-none, touches-then, touches-only, one-touches}
-
--- ---- what holds of each way out holds of the call
 
 -- the tape that the session has under the name, and what is opened
 abbrev pub tapeNamed : List ℕ → List ℕ → Found
@@ -51,44 +44,6 @@ tapeNamed s wanted = findName s namesAt wanted
 
 abbrev pub opened : List ℕ → List ℕ → ℕ → ℕ → ℕ → ℕ → Opening
 opened s wanted entry fs cache start = openingOf (viewFound s (tapeNamed s wanted)) entry fs cache start
-
--- what a call that is served has found
-pub record Goes (d s wanted : List ℕ) (o : Opening) (p : ℕ) : Type 0 where
-  pub usable-both : usable d s ≡ true
-  pub shaped : Shaped wanted o
-  pub place : placeFor s (tapeNamed s wanted) ≡ At p
-
-module _ (P : Outcome → Type 0) (d s : List ℕ) (t : ℕ) (wanted : List ℕ) (entry fs cache start : ℕ) (no : (why : Refusal) → P (refusedAt why d s)) where
-  abbrev o : Opening
-  o = opened s wanted entry fs cache start
-
-  pub open-cases : ((p : ℕ) → Goes d s wanted (opened s wanted entry fs cache start) p → P (openNow d s wanted (opened s wanted entry fs cache start) (findName d D.directories wanted) p))
-      → P (openCall d s t wanted entry fs cache start)
-  unfolding openCall openOn openAt openIn
-  open-cases goes =
-      picked P (usable d s) _ _
-      (λ ok. picked P (writes s t) _ _ (λ w. by ok (shapeOf wanted o) refl) (λ w. no Unknown))
-      (λ ok. no Unusable)
-    where
-      into : usable d s ≡ true → Shaped wanted o → (f : Found) → placeFor s (tapeNamed s wanted) ≡ f → P (openPlaced d s wanted o f)
-      into ok shaped (At p) e =
-          let directory = findName d D.directories wanted in
-          picked P (isNinth d s (o .listed) directory) _ _ (λ n. no Full)
-          (λ n.
-          picked P (o .listed && isNothing directory) _ _ (λ g. no Missing)
-          (λ g.
-          picked P (canFill d s wanted o) _ _
-          (λ c.
-          picked P (eqb (headOf s .«last_handle») 0xffff_ffff_ffff_ffff) _ _ (λ l. no TooLarge)
-          (λ l. goes p (record { usable-both = ok; shaped = shaped; place = e })))
-          (λ c. no Missing)))
-      into ok shaped Nothing e = no Full
-
-      by : usable d s ≡ true → (a : Answer) → shapeOf wanted o ≡ a → P (openShaped d s wanted o (tapeNamed s wanted) a)
-      by ok (Done v) e =
-          picked P (isOpenTape s (tapeNamed s wanted)) _ _ (λ h. no AlreadyOpen)
-          (λ h. into ok (shape-done wanted o v e) (placeFor s (tapeNamed s wanted)) refl)
-      by ok (Refused why) e = no why
 
 -- ---- of the session
 
@@ -119,15 +74,15 @@ touches-rowed s p o bs fit =
     (touches-then (openParts p) b c _ (touches-row b p _ _ c (omega arith) (omega arith) (only-putHandle b p _))
     (touches-only (openParts p) _ _ c _ (only-putHead c _) (λ i k l. k .0 l))))
 
-touches-openNow : (d s wanted : List ℕ) (o : Opening) (directory : Found) (p : ℕ) → Goes d s wanted o p → Touches (openParts p) s (openNow d s wanted o directory p .session)
+touches-openNow : (d s wanted : List ℕ) (o : Opening) (directory : Found) (p : ℕ) → usable d s ≡ true → Shaped wanted o → Touches (openParts p) s (openNow d s wanted o directory p .session)
 unfolding openNow openWith
-touches-openNow d s wanted o directory p g =
-    let short = g .shaped .name-short in
+touches-openNow d s wanted o directory p ok shaped =
+    let short = shaped .name-short in
     let ready = readied (areas d s) wanted o (transactionOf s 16 .epoch) directory .session in
     let named = putName ready namesAt p wanted in
-    let few : length (cachedBytes d wanted o) ≤ 4096 = omega (arith, length-cached o d wanted, cached-most o, g .shaped .cache-small) in
+    let few : length (cachedBytes d wanted o) ≤ 4096 = omega (arith, length-cached o d wanted, cached-most o, shaped .cache-small) in
     touches-then (openParts p) s ready _
-    (touches-only (openParts p) _ _ s ready (only-readied-session (areas d s) wanted o _ directory (usable-disk d s (g .usable-both)) short) (λ i k l. k .1 .1 .1 .0 l))
+    (touches-only (openParts p) _ _ s ready (only-readied-session (areas d s) wanted o _ directory (usable-disk d s ok) short) (λ i k l. k .1 .1 .1 .0 l))
     (touches-then (openParts p) ready named _
     (touches-only (openParts p) _ _ ready named (only-putName ready namesAt p wanted short) (λ i k l. k .1 .0 l))
     (touches-rowed named p o (cachedBytes d wanted o) few))
@@ -187,16 +142,16 @@ module _ (d s : List ℕ) (t : ℕ) (wanted : List ℕ) (entry fs cache start : 
   -- the place that the name has, else the first free one
   pub open-touches-session : Touches (found openParts (placeFor s (tapeNamed s wanted))) s (openCall d s t wanted entry fs cache start .session)
   open-touches-session =
-      open-cases (λ (x : Outcome). Touches (found openParts (placeFor s (tapeNamed s wanted))) s (x .session)) d s t wanted entry fs cache start
+      open-cases d s t wanted entry fs cache start (λ (x : Outcome). Touches (found openParts (placeFor s (tapeNamed s wanted))) s (x .session))
       (λ why. touches-none (found openParts (placeFor s (tapeNamed s wanted))) s)
-      (λ p g. rw (g .place) (touches-openNow d s wanted _ (findName d D.directories wanted) p g))
+      (λ ok w p g. rw (g .place) (touches-openNow d s wanted _ (findName d D.directories wanted) p ok (opens-shaped d s t wanted entry fs cache start p g)))
 
   pub open-touches-disk : Touches (readiedParts d (findName d D.directories wanted)) d (openCall d s t wanted entry fs cache start .disk)
   unfolding openNow openWith
   open-touches-disk =
-      open-cases (λ (x : Outcome). Touches (readiedParts d (findName d D.directories wanted)) d (x .disk)) d s t wanted entry fs cache start
+      open-cases d s t wanted entry fs cache start (λ (x : Outcome). Touches (readiedParts d (findName d D.directories wanted)) d (x .disk))
       (λ why. touches-none (readiedParts d (findName d D.directories wanted)) d)
-      (λ p g. touches-readied d s wanted _ _ (g .shaped .name-short) (findName d D.directories wanted))
+      (λ ok w p g. touches-readied d s wanted _ _ (opens-shaped d s t wanted entry fs cache start p g .name-short) (findName d D.directories wanted))
 
 -- ---- what it leaves
 

@@ -3,18 +3,16 @@
 use mathlib.Core.Path.{_≡_, ap, _∙_}
 use mathlib.Core.Logic.{_≢_}
 use mathlib.Core.List.{List, [], _∷_}
-use Prim.Native.Nat.{ℕ, _+_, _^_, _≤_, _<_}
+use Prim.Native.Nat.{ℕ, _+_, _≤_, _<_}
 use native.Mathlib.Omega.{arith}
 use lib.ListN.{length}
 use Rattle.octets.specs.Cases.{picked}
 use Rattle.octets.specs.declared.Found.{Found}
 use Rattle.octets.specs.declared.Found.the-variants.{At}
 use Rattle.answers.specs.Outcome.{Outcome}
-use Rattle.layout.specs.Disk as D
-use Rattle.layout.specs.Session.{ringAt, handleNumber, fileSize, ringLen, Begun}
+use Rattle.layout.specs.Session.{ringAt, fileSize}
 use Rattle.ring_buffer.specs.Put.{fills, pushesOut, lastOf, afterPut}
 use Rattle.ring_buffer.specs.Ring.{prepared}
-use Rattle.disk.specs.StepLaws.{directory-low}
 use Rattle.session.specs.Rows.{ringOf, pushRing, findHandle}
 use Rattle.session.specs.RowLaws.{only-putRing, only-pushRing, only-putStaged}
 use Rattle.session.specs.declared.tape_rows.Staged.{Staged}
@@ -22,12 +20,10 @@ use Rattle.rolling_tape.specs.Removal.{Areas, areas}
 use Rattle.cached_tape.specs.Flushing.{flushed}
 use Rattle.cached_tape.specs.Putting.{sentTo, cachedIn, grown, putIn}
 use Rattle.cached_tape.specs.PutLaws.{kept-sent}
-use Rattle.beginning.specs.Ways.{usable-begun}
 use Rattle.staging.specs.Seeing.{touchedAs}
 use Rattle.staging.specs.Ways.{handle-found}
 use Rattle.appending.specs.Calls.{putCall}
-use Rattle.appending.specs.CallWays.{usable-sound, seen-touched, touched-held}
-use Rattle.appending.specs.Laws.{Goes, put-cases}
+use Rattle.appending.specs.Laws.{put-cases, Ready, ready}
 use Rattle.touches.specs.Parts.{Part, Inside, Outside, Touches, Stays, belowTapes, handles, tapeOf, bookkeepingOf, stagedOf, tracking, found, belowFiles, files, stays, stays-found, touches-none, touches-then, touches-only, one-touches}
 use Rattle.touches.specs.Parts as P
 use Rattle.touches.specs.Files.{sound-lengths, Written, written-none, written-then, written-wrote, written-flushed}
@@ -45,16 +41,6 @@ touches-cachedIn s p len bs room =
     touches-then (putParts p) s t _
     (touches-only (putParts p) _ _ s t (only-pushRing s p (prepared (ringOf s p) len) (lastOf (ringOf s p) bs) room) (λ i o l. o .1 .1 .1 .0 l))
     (touches-only (putParts p) _ _ t _ (only-putRing t p (afterPut (ringOf s p) len bs)) (λ i o l. omega (arith, o .0 (omega arith))))
-
--- what a put asks for
-record Ready (a : Areas) (place p : ℕ) (row : Staged) (bs : List ℕ) : Type 0 where
-  sound : D.Sound (a .disk)
-  begun : Begun (a .session)
-  there : place < 8
-  low : p < 8
-  held : handleNumber (a .session) p ≢ 0
-  pending : row .unwritten ≤ ringLen (a .session) p
-  fits : row .len + length bs < 2 ^ 64
 
 module _ (a : Areas) (place p : ℕ) (row : Staged) (bs : List ℕ) (r : Ready a place p row bs) where
   touches-putIn : Touches (putParts p) (a .session) (putIn a place p row bs .session)
@@ -93,29 +79,15 @@ module _ (a : Areas) (place p : ℕ) (row : Staged) (bs : List ℕ) (r : Ready a
 -- ---- the call
 
 module _ (d s : List ℕ) (t h : ℕ) (bs : List ℕ) where
-  ready : (p place : ℕ) → Goes d s t h bs p place → Ready (areas d s) place p (touchedAs s p) bs
-  ready p place g =
-      let b = usable-begun d s (g .sound) in
-      let f = handle-found s h p (g .found) in
-      record {
-        sound = usable-sound d s (g .sound);
-        begun = b;
-        there = directory-low d _ place (g .on .there);
-        low = f .low;
-        held = f .held;
-        pending = touched-held s p b (f .low) (f .held);
-        fits = omega (arith, seen-touched s p, g .on .fits);
-      }
-
   pub put-touches-session : Touches (found putParts (findHandle s h)) s (putCall d s t h bs .session)
   put-touches-session =
       put-cases (λ (o : Outcome). Touches (found putParts (findHandle s h)) s (o .session)) d s bs (λ why. touches-none (found putParts (findHandle s h)) s) t h
-      (λ p place g. rw (g .found) (touches-putIn (areas d s) place p (touchedAs s p) bs (ready p place g)))
+      (λ p place g. rw (g .found) (touches-putIn (areas d s) place p (touchedAs s p) bs (ready d s t h bs p place g)))
 
   pub put-touches-disk : Touches (files d ∷ []) d (putCall d s t h bs .disk)
   put-touches-disk =
       put-cases (λ (o : Outcome). Touches (files d ∷ []) d (o .disk)) d s bs (λ why. touches-none (files d ∷ []) d) t h
-      (λ p place g. files-putIn (areas d s) place p (touchedAs s p) bs (ready p place g))
+      (λ p place g. files-putIn (areas d s) place p (touchedAs s p) bs (ready d s t h bs p place g))
 
 -- ---- what it leaves
 

@@ -11,6 +11,7 @@ use Rattle.layout.specs.Names.{placeAt, letters, name}
 use Rattle.session.specs.Rows.{headOf, viewOf, transactionOf, handleOf, ringOf, stagedOf, trackingOf, ringBytes}
 use Rattle.disk.specs.Steps.{sideAt, sideLen, sideBytes}
 use Rattle.metadata.specs.declared.choice.Side.{Side}
+use Rattle.session.specs.RowWords.{head-words, view-words, transaction-words, handle-words, ring-words, staged-words}
 use Rattle.touches.specs.Parts.{bytes, rows, Stays}
 
 -- one of the rows
@@ -39,52 +40,22 @@ module _ (low high : ℕ) (s t : List ℕ) (stay : Stays (bytes low high) s t) w
   -- ---- of the session
 
   pub head-stays : low ≤ headAt → headAt + 40 ≤ high → headOf t ≡ headOf s
-  unfolding headOf
-  head-stays l h =
-      let word = numAt-stays 8 in
-      rw (
-        word headAt (omega arith) (omega arith),
-        word (headAt + 8) (omega arith) (omega arith),
-        word (headAt + 16) (omega arith) (omega arith),
-        word (headAt + 24) (omega arith) (omega arith),
-        word (headAt + 32) (omega arith) (omega arith),
-      )
+  head-stays l h = head-words s t (λ b m n. numAt-stays 8 b (omega arith) (omega arith))
 
   pub view-stays : (w p : ℕ) → low ≤ viewAt w p → viewAt w p + 24 ≤ high → viewOf t w p ≡ viewOf s w p
-  unfolding viewOf
-  view-stays w p l h =
-      let word = numAt-stays 8 in
-      rw (word (viewAt w p) (omega arith) (omega arith), word (viewAt w p + 8) (omega arith) (omega arith), word (viewAt w p + 16) (omega arith) (omega arith))
+  view-stays w p l h = view-words s t w p (λ b m n. numAt-stays 8 b (omega arith) (omega arith))
 
   pub transaction-stays : (x : ℕ) → low ≤ transactionAt x → transactionAt x + 24 ≤ high → transactionOf t x ≡ transactionOf s x
-  unfolding transactionOf
-  transaction-stays x l h =
-      let word = numAt-stays 8 in
-      rw (word (transactionAt x) (omega arith) (omega arith), word (transactionAt x + 8) (omega arith) (omega arith), word (transactionAt x + 16) (omega arith) (omega arith))
+  transaction-stays x l h = transaction-words s t x (λ b m n. numAt-stays 8 b (omega arith) (omega arith))
 
   pub handle-stays : (p : ℕ) → low ≤ tapeAt p → tapeAt p + 24 ≤ high → handleOf t p ≡ handleOf s p
-  unfolding handleOf
-  handle-stays p l h =
-      let word = numAt-stays 8 in
-      rw (word (tapeAt p) (omega arith) (omega arith), word (tapeAt p + 8) (omega arith) (omega arith), word (tapeAt p + 16) (omega arith) (omega arith))
+  handle-stays p l h = handle-words s t p (λ b m n. numAt-stays 8 b (omega arith) (omega arith))
 
   pub ring-stays : (p : ℕ) → low ≤ tapeAt p + 24 → tapeAt p + 56 ≤ high → ringOf t p ≡ ringOf s p
-  unfolding ringOf
-  ring-stays p l h =
-      let word = numAt-stays 8 in
-      rw (word (tapeAt p + 24) (omega arith) (omega arith), word (tapeAt p + 32) (omega arith) (omega arith), word (tapeAt p + 40) (omega arith) (omega arith), word (tapeAt p + 48) (omega arith) (omega arith))
+  ring-stays p l h = ring-words s t p (λ b m n. numAt-stays 8 b (omega arith) (omega arith))
 
   pub staged-stays : (p : ℕ) → low ≤ tapeAt p + 56 → tapeAt p + 96 ≤ high → stagedOf t p ≡ stagedOf s p
-  unfolding stagedOf
-  staged-stays p l h =
-      let word = numAt-stays 8 in
-      rw (
-        word (tapeAt p + 56) (omega arith) (omega arith),
-        word (tapeAt p + 64) (omega arith) (omega arith),
-        word (tapeAt p + 72) (omega arith) (omega arith),
-        word (tapeAt p + 80) (omega arith) (omega arith),
-        word (tapeAt p + 88) (omega arith) (omega arith),
-      )
+  staged-stays p l h = staged-words s t p (λ b m n. numAt-stays 8 b (omega arith) (omega arith))
 
   pub tracking-stays : (i : ℕ) → low ≤ trackingAt i → trackingAt i + 16 ≤ high → trackingOf t i ≡ trackingOf s i
   unfolding trackingOf

@@ -8,7 +8,7 @@ use lib.ListN.{length}
 use Rattle.layout.specs.Disk.{dataAt}
 use Rattle.disk.specs.Steps.{formatted}
 use Rattle.session.specs.Begin.{ended}
-use Rattle.areas.specs.Format.{outcome, formatStep}
+use Rattle.areas.specs.Format.{outcome}
 use Rattle.areas.specs.FormatLaws.{no-slots, many-slots, small-disk, small-session, format-done}
 use Rattle.areas.specs.declared.Formatted.the-variants.{Done}
 use Rattle.areas.proofs.format.Statement.{statement}

@@ -4,10 +4,10 @@ use mathlib.Core.Bool.{true}
 use Rattle.octets.specs.declared.Found.the-variants.{At}
 use Rattle.session.specs.Rows.{findHandle}
 use Rattle.beginning.specs.Transactions.{usable}
-use Rattle.beginning.specs.Ways.{usable-begun}
+use Rattle.beginning.specs.Ways.{usable-begun, usable-disk}
 use Rattle.staging.specs.Seeing.{writes}
 use Rattle.staging.specs.Ways.{handle-found}
-use Rattle.appending.specs.CallWays.{usable-sound, call-unusable, call-no-append, call-no-handle, call-goes}
+use Rattle.appending.specs.CallWays.{call-unusable, call-no-append, call-no-handle, call-goes}
 use borrow.Author.Needs.{needs}
 use Rattle.appending.proofs.calls.append_entries.Statement.{statement}
 use Rattle.appending.proofs.calls.append_entries.Tie as tie
@@ -66,7 +66,7 @@ append-on-requires c κs =
     let ok : usable (args .disk .now) (args .session .now) ≡ true = sym (is-usable .ensures) ∙ if1 .taken in
     let found : findHandle (args .session .now) (args .handle) ≡ At (tape .given .0 .0) = sym (find-handle .ensures) ∙ tape .given .1 in
     let row = handle-found (args .session .now) (args .handle) (tape .given .0 .0) found in
-    ((usable-sound (args .disk .now) (args .session .now) ok, usable-begun (args .disk .now) (args .session .now) ok), (row .low, row .held))
+    ((usable-disk (args .disk .now) (args .session .now) ok, usable-begun (args .disk .now) (args .session .now) ok), (row .low, row .held))
 
 same-length-3 : tie.Need-same-length-3
 same-length-3 c = search needs

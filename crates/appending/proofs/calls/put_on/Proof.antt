@@ -5,8 +5,9 @@ use native.Mathlib.Omega.{arith}
 use lib.ListN.{length}
 use Rattle.layout.specs.Session.{ringLen}
 use Rattle.staging.specs.Ways.{entry-some}
-use Rattle.appending.specs.CallWays.{touched-held, put-full, put-goes}
+use Rattle.appending.specs.CallWays.{put-full, put-goes}
 use borrow.Author.Needs.{needs}
+use Rattle.staging.specs.Laws.{touched-held}
 use Rattle.appending.proofs.calls.put_on.Statement.{statement}
 use Rattle.appending.proofs.calls.put_on.Tie as tie
 

@@ -11,8 +11,9 @@ use Rattle.session.specs.declared.tape_rows.Staged.{Staged}
 use Rattle.rolling_tape.specs.Removal.{areas}
 use Rattle.cached_tape.specs.Putting.{sentTo, cachedIn}
 use Rattle.cached_tape.specs.FlushLaws.{begun-kept, number-kept}
-use Rattle.cached_tape.specs.PutLaws.{Kept, kept-sent, put-as}
+use Rattle.cached_tape.specs.PutLaws.{kept-sent, put-as}
 use borrow.Author.Needs.{needs}
+use Rattle.rolling_tape.specs.Kept.{Kept}
 use Rattle.cached_tape.proofs.putting.put_bytes.Statement.{statement}
 use Rattle.cached_tape.proofs.putting.put_bytes.Tie as tie
 

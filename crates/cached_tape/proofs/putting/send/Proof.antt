@@ -8,9 +8,10 @@ use Rattle.session.specs.Rows.{ringOf}
 use Rattle.rolling_tape.specs.Removal.{Areas, areas}
 use Rattle.cached_tape.specs.Flushing.{wrote, flushed}
 use Rattle.cached_tape.specs.FlushLaws.{fileSize-kept}
-use Rattle.cached_tape.specs.PutLaws.{Kept, kept-flushed, sent-fills, sent-out, sent-none}
+use Rattle.cached_tape.specs.PutLaws.{kept-flushed, sent-fills, sent-out, sent-none}
 use Rattle.cached_tape.specs.ServeLaws.{handle-size}
 use borrow.Author.Needs.{needs}
+use Rattle.rolling_tape.specs.Kept.{Kept}
 use Rattle.cached_tape.proofs.putting.send.Statement.{statement}
 use Rattle.cached_tape.proofs.putting.send.Tie as tie
 

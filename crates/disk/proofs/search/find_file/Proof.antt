@@ -1,7 +1,6 @@
 -- `find_file` answers `findFile`. Invariants: the directories that are left give the whole answer; in the named one, so do its slots. Assumes nothing.
 use mathlib.Core.Path.{_≡_, refl, sym, ap, _∙_}
 use Prim.Native.Nat.{_-_, _≤_}
-use native.Mathlib.Nat.{sub-zero}
 use native.Mathlib.Omega.{arith}
 use borrow.Author.Needs.{needs}
 use Rattle.octets.specs.First.{first, first-hit, first-miss, first-none}
@@ -34,20 +33,23 @@ search-holds c = (omega arith, refl)
 has-name-requires : tie.Need-has-name-requires Inv-loop μ-loop Inv-search μ-search
 has-name-requires c κs = search needs
 
+search-from-requires : tie.Need-search-from-requires Inv-loop μ-loop Inv-search μ-search
+search-from-requires c κs = search needs
+
 loop-holds : tie.Need-loop-holds Inv-loop μ-loop Inv-search μ-search
-unfolding findIn
 loop-holds c =
-    let if2 = c .if2 in
-    let has-name = c .before .has-name in
-    let if1 = c .before .before .if1 in
-    let search = c .before .before .before .search in
-    let u64-at = c .before .before .before .before .u64-at in
-    let args = c .before .before .before .before .before .before .before .args in
+    let search-from = c .search-from in
+    let if2 = c .before .if2 in
+    let has-name = c .before .before .has-name in
+    let if1 = c .before .before .before .if1 in
+    let search = c .before .before .before .before .search in
+    let u64-at = c .before .before .before .before .before .u64-at in
+    let args = c .before .before .before .before .before .before .before .before .args in
     let s = args .disk .now in
     let n : u64-at .result ≡ slots s = u64-at .ensures in
     let here = first-hit (named s (args .name .now)) 8 (search .place) (omega arith) (sym (has-name .ensures) ∙ if2 .taken) in
     let whole : findIn s (search .place) (args .number) ≡ findFile s (args .name .now) (args .number) = ap (within s (args .number)) (sym here) ∙ search .inv .1 in
-    (omega arith, rw (sub-zero, n) whole)
+    (omega arith, rw n (search-from .ensures .1) ∙ whole)
 
 is-file-requires : tie.Need-is-file-requires Inv-loop μ-loop Inv-search μ-search
 is-file-requires c κs = search needs
@@ -64,9 +66,9 @@ loop-again c =
     let is-file = c .before .is-file in
     let loop-test = c .before .before .loop-test in
     let loop = c .before .before .before .loop in
-    let search = c .before .before .before .before .before .before .before .search in
-    let u64-at = c .before .before .before .before .before .before .before .before .u64-at in
-    let args = c .before .before .before .before .before .before .before .before .before .before .before .args in
+    let search = c .before .before .before .before .before .before .before .before .search in
+    let u64-at = c .before .before .before .before .before .before .before .before .before .u64-at in
+    let args = c .before .before .before .before .before .before .before .before .before .before .before .before .args in
     let miss = sym (is-file .ensures) ∙ if3 .left in
     (omega arith, sym (first-miss (isFile (args .disk .now) (search .place) (args .number)) (u64-at .result) (loop .slot) (loop-test .taken) miss) ∙ loop .inv .1)
 
@@ -101,9 +103,9 @@ returns-2 c =
     let is-file = c .before .is-file in
     let loop-test = c .before .before .loop-test in
     let loop = c .before .before .before .loop in
-    let search = c .before .before .before .before .before .before .before .search in
-    let u64-at = c .before .before .before .before .before .before .before .before .u64-at in
-    let args = c .before .before .before .before .before .before .before .before .before .before .before .args in
+    let search = c .before .before .before .before .before .before .before .before .search in
+    let u64-at = c .before .before .before .before .before .before .before .before .before .u64-at in
+    let args = c .before .before .before .before .before .before .before .before .before .before .before .before .args in
     let hit = sym (is-file .ensures) ∙ if3 .taken in
     sym (first-hit (isFile (args .disk .now) (search .place) (args .number)) (u64-at .result) (loop .slot) (loop-test .taken) hit) ∙ loop .inv .1
 
@@ -111,9 +113,9 @@ returns-3 : tie.Need-returns-3 Inv-loop μ-loop Inv-search μ-search
 returns-3 c =
     let loop-test = c .loop-test in
     let loop = c .before .loop in
-    let search = c .before .before .before .before .before .search in
-    let u64-at = c .before .before .before .before .before .before .u64-at in
-    let args = c .before .before .before .before .before .before .before .before .before .args in
+    let search = c .before .before .before .before .before .before .search in
+    let u64-at = c .before .before .before .before .before .before .before .u64-at in
+    let args = c .before .before .before .before .before .before .before .before .before .before .args in
     sym (first-none (isFile (args .disk .now) (search .place) (args .number)) (u64-at .result) (loop .slot) (loop-test .left)) ∙ loop .inv .1
 
 pub find-file-spec : {M : Type 1} → statement M
@@ -127,6 +129,7 @@ find-file-spec =
     u64-at-requires
     search-holds
     has-name-requires
+    search-from-requires
     loop-holds
     is-file-requires
     add-slot

@@ -1,7 +1,6 @@
 -- `commit` is `commitCall`: 1, then by the kind of the open transaction. Assumes nothing.
 use mathlib.Core.Path.{sym, _∙_}
-use Rattle.beginning.specs.Ways.{usable-begun}
-use Rattle.appending.specs.CallWays.{usable-sound}
+use Rattle.beginning.specs.Ways.{usable-begun, usable-disk}
 use Rattle.ending.specs.CommitWays.{commit-unusable, commit-appends, commit-truncates, commit-unknown}
 use borrow.Author.Needs.{needs}
 use Rattle.ending.proofs.committing.commit.Statement.{statement}
@@ -22,7 +21,7 @@ commit-append-requires c κs =
     let if1 = c .before .before .before .before .before .if1 in
     let is-usable = c .before .before .before .before .before .before .is-usable in
     let args = c .before .before .before .before .before .before .before .before .before .before .before .args in
-    (usable-sound (args .disk .now) (args .session .now) (sym (is-usable .ensures) ∙ if1 .taken), usable-begun (args .disk .now) (args .session .now) (sym (is-usable .ensures) ∙ if1 .taken))
+    (usable-disk (args .disk .now) (args .session .now) (sym (is-usable .ensures) ∙ if1 .taken), usable-begun (args .disk .now) (args .session .now) (sym (is-usable .ensures) ∙ if1 .taken))
 
 same-length : tie.Need-same-length
 same-length c = search needs
@@ -52,7 +51,7 @@ commit-truncate-requires c κs =
     let if1 = c .before .before .before .before .before .before .before .before .if1 in
     let is-usable = c .before .before .before .before .before .before .before .before .before .is-usable in
     let args = c .before .before .before .before .before .before .before .before .before .before .before .before .before .before .args in
-    (usable-sound (args .disk .now) (args .session .now) (sym (is-usable .ensures) ∙ if1 .taken), usable-begun (args .disk .now) (args .session .now) (sym (is-usable .ensures) ∙ if1 .taken))
+    (usable-disk (args .disk .now) (args .session .now) (sym (is-usable .ensures) ∙ if1 .taken), usable-begun (args .disk .now) (args .session .now) (sym (is-usable .ensures) ∙ if1 .taken))
 
 same-length-3 : tie.Need-same-length-3
 same-length-3 c = search needs

@@ -2,9 +2,9 @@
 use mathlib.Core.Path.{_≡_, sym, _∙_}
 use mathlib.Core.Bool.{true}
 use Rattle.beginning.specs.Transactions.{usable}
-use Rattle.beginning.specs.Ways.{usable-begun}
+use Rattle.beginning.specs.Ways.{usable-begun, usable-disk}
 use Rattle.staging.specs.Ways.{transaction-low}
-use Rattle.ending.specs.DropLaws.{usable-disk, drop-unusable, drop-unknown, drop-served}
+use Rattle.ending.specs.DropLaws.{drop-unusable, drop-unknown, drop-served}
 use borrow.Author.Needs.{needs}
 use Rattle.ending.proofs.dropping.drop_transaction.Statement.{statement}
 use Rattle.ending.proofs.dropping.drop_transaction.Tie as tie

@@ -7,8 +7,9 @@ use Rattle.metadata.specs.Name.{nameRule}
 use Rattle.layout.specs.Names.{findName}
 use Rattle.layout.specs.Session.{namesAt}
 use Rattle.session.specs.declared.views.View.{View}
-use Rattle.entries.specs.Ways.{name-low, sees-no-name, sees-nothing, sees-at}
+use Rattle.entries.specs.Ways.{sees-no-name, sees-nothing, sees-at}
 use borrow.Author.Needs.{needs}
+use Rattle.layout.specs.NamesLaws.{name-low}
 use Rattle.entries.proofs.existing.is_seen.Statement.{statement}
 use Rattle.entries.proofs.existing.is_seen.Tie as tie
 
@@ -46,7 +47,7 @@ seen-by-requires c κs =
     let wanted = args .name .now in
     let p = tape .given .0 .0 in
     let found : findName s namesAt wanted ≡ At p = sym (find-tape .ensures) ∙ tape .given .1 in
-    (pre .long, (omega arith, name-low s wanted p found))
+    (pre .long, (omega arith, name-low s namesAt wanted p found))
 
 returns-2 : tie.Need-returns-2
 returns-2 c =

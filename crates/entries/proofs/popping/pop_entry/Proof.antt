@@ -4,10 +4,10 @@ use mathlib.Core.Bool.{true}
 use Rattle.octets.specs.declared.Found.the-variants.{At}
 use Rattle.session.specs.Rows.{findHandle}
 use Rattle.beginning.specs.Transactions.{usable}
-use Rattle.beginning.specs.Ways.{usable-begun}
+use Rattle.beginning.specs.Ways.{usable-begun, usable-disk}
 use Rattle.staging.specs.Seeing.{cuts}
 use Rattle.staging.specs.Ways.{handle-found}
-use Rattle.entries.specs.Ways.{usable-sound, pop-unusable, pop-no-truncate, pop-no-handle, pop-goes}
+use Rattle.entries.specs.Ways.{pop-unusable, pop-no-truncate, pop-no-handle, pop-goes}
 use borrow.Author.Needs.{needs}
 use Rattle.entries.proofs.popping.pop_entry.Statement.{statement}
 use Rattle.entries.proofs.popping.pop_entry.Tie as tie
@@ -72,7 +72,7 @@ pop-on-requires c κs =
     let p = tape .given .0 .0 in
     let held : findHandle s (args .handle) ≡ At p = sym (find-handle .ensures) ∙ tape .given .1 in
     let row = handle-found s (args .handle) p held in
-    ((usable-sound d s ok, usable-begun d s ok), (row .low, row .held))
+    ((usable-disk d s ok, usable-begun d s ok), (row .low, row .held))
 
 same-length-2 : tie.Need-same-length-2
 same-length-2 c = search needs

@@ -4,9 +4,9 @@ use mathlib.Core.Bool.{true}
 use Rattle.octets.specs.declared.Found.the-variants.{At}
 use Rattle.session.specs.Rows.{findTransaction, findHandle}
 use Rattle.beginning.specs.Transactions.{usable}
-use Rattle.beginning.specs.Ways.{usable-begun}
+use Rattle.beginning.specs.Ways.{usable-begun, usable-disk}
 use Rattle.staging.specs.Ways.{handle-found, transaction-low}
-use Rattle.entries.specs.Ways.{usable-sound, read-unusable, read-no-transaction, read-no-handle, read-goes}
+use Rattle.entries.specs.Ways.{read-unusable, read-no-transaction, read-no-handle, read-goes}
 use borrow.Author.Needs.{needs}
 use Rattle.entries.proofs.reads.read_entries.Statement.{statement}
 use Rattle.entries.proofs.reads.read_entries.Tie as tie
@@ -91,7 +91,7 @@ read-on-requires c κs =
     let p = tape .given .0 .0 in
     let held : findHandle s (args .handle) ≡ At p = sym (find-handle .ensures) ∙ tape .given .1 in
     let row = handle-found s (args .handle) p held in
-    (((usable-sound d s ok, usable-begun d s ok), transaction-low s (args .transaction) x there), (row .low, row .held))
+    (((usable-disk d s ok, usable-begun d s ok), transaction-low s (args .transaction) x there), (row .low, row .held))
 
 same-length : tie.Need-same-length
 same-length c = search needs

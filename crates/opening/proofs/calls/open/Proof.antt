@@ -6,12 +6,13 @@ use Rattle.layout.specs.Names.{findName}
 use Rattle.layout.specs.Session.{namesAt}
 use Rattle.session.specs.declared.views.View.{View}
 use Rattle.beginning.specs.Transactions.{usable}
-use Rattle.beginning.specs.Ways.{usable-begun}
+use Rattle.beginning.specs.Ways.{usable-begun, usable-disk}
 use Rattle.opening.specs.declared.shape.Opening.{Opening}
 use Rattle.opening.specs.Shape.{openingOf}
 use Rattle.opening.specs.Calls.{viewFound, openOn}
-use Rattle.opening.specs.CallWays.{name-low, usable-disk, open-unusable, open-unknown, open-goes}
+use Rattle.opening.specs.CallWays.{open-unusable, open-unknown, open-goes}
 use borrow.Author.Needs.{needs}
+use Rattle.layout.specs.NamesLaws.{name-low}
 use Rattle.opening.proofs.calls.open.Statement.{statement}
 use Rattle.opening.proofs.calls.open.Tie as tie
 

@@ -6,8 +6,9 @@ use Rattle.octets.specs.declared.Found.the-variants.{At}
 use Rattle.layout.specs.Disk.{directories}
 use Rattle.layout.specs.Names.{findName}
 use Rattle.opening.specs.Calls.{isOpenTape, placeFor, openIn}
-use Rattle.opening.specs.CallWays.{name-low, place-low, at-open, at-full, at-place}
+use Rattle.opening.specs.CallWays.{place-low, at-open, at-full, at-place}
 use borrow.Author.Needs.{needs}
+use Rattle.layout.specs.NamesLaws.{name-low}
 use Rattle.opening.proofs.calls.open_at.Statement.{statement}
 use Rattle.opening.proofs.calls.open_at.Tie as tie
 

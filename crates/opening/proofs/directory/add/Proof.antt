@@ -9,8 +9,8 @@ use Rattle.rolling_tape.specs.Removal.{Areas, areas}
 use Rattle.opening.specs.Directory.{emptied}
 use Rattle.opening.specs.Ways.{add-at, add-nowhere}
 use Rattle.opening.specs.DirectoryLaws.{sound-emptied}
-use Rattle.opening.specs.CallWays.{name-low}
 use borrow.Author.Needs.{needs}
+use Rattle.layout.specs.NamesLaws.{name-low}
 use Rattle.opening.proofs.directory.add.Statement.{statement}
 use Rattle.opening.proofs.directory.add.Tie as tie
 

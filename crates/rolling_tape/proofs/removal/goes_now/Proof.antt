@@ -6,7 +6,7 @@ use mathlib.Core.List.{List}
 use Prim.Native.Nat.{ℕ, _+_}
 use borrow.Author.Needs.{needs}
 use borrow.Author.Tests.{eq-eqb, ne-eqb}
-use Rattle.layout.specs.Disk.{owner, number}
+use Rattle.layout.specs.Disk.{owner}
 use Rattle.disk.specs.Steps.{entryOf}
 use Rattle.disk.specs.Ways.{entry-owner}
 use Rattle.disk.specs.declared.files.Entry.{Entry}

@@ -1,0 +1,17 @@
+pub mod Turns
+pub mod Flushes
+pub mod Ripens
+pub mod AppendFiles
+pub mod AppendOrder
+pub mod CommitAppends
+pub mod Ends
+pub mod CutRows
+pub mod CutLeaves
+pub mod CommitCuts
+pub mod Commitable
+pub mod Closes
+pub mod CloseStarts
+pub mod DropRows
+pub mod DropLeaves
+pub mod Drops
+pub mod EndProper

@@ -1,0 +1,10 @@
+pub mod OpensRows
+pub mod OpensPlaces
+pub mod OpensFolders
+pub mod OpensServed
+pub mod OpensOrder
+pub mod OpensSeen
+pub mod Opens
+pub mod OpenRooms
+pub mod OpenProper
+pub mod Reopens
