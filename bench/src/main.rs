@@ -2,15 +2,10 @@
 //! files are made in that directory (a memory file system, to leave the disk out). `bench DIRECTORY --count` makes each call once, between
 //! two marks, in the same order.
 
-#[path = "../../beside/linked/src/ffi.rs"]
-mod ffi;
 mod inside;
 mod meter;
 mod ours;
 mod rows;
-#[expect(dead_code, reason = "beside/linked has more calls")]
-#[path = "../../beside/linked/src/store.rs"]
-mod store;
 mod theirs;
 
 use std::{

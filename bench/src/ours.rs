@@ -1,46 +1,56 @@
 //! The store, prepared for a row: two areas of our own, filled through the calls.
 
-use crate::{Shape, store::Store};
+use tapes::{
+    Owned,
+    calls::{self, Reply},
+};
+
+use crate::Shape;
+
+fn open(store: &mut Owned, append: u64, name: &str, shape: &Shape) -> u64 {
+    let shape = tapes::Shape { file_size: shape.file, cache: shape.cache, ..tapes::Shape::default() };
+    served(calls::open(store, append, name.as_bytes(), shape))
+}
 
 /// A store on so many slots, with a tape in each of the shape's names, committed, and a session begun.
-pub fn prepared(shape: &Shape) -> Store {
-    let mut store = Store::zeros(shape.slots);
-    served(store.format(shape.slots));
-    served(store.store());
-    let append = served(store.append());
+pub fn prepared(shape: &Shape) -> Owned {
+    let mut store = Owned::zeros(shape.slots);
+    served(calls::format(&mut store, shape.slots));
+    served(calls::store(&mut store));
+    let append = served(calls::append(&mut store));
     for name in shape.names {
-        let handle = served(store.open(append, name.as_bytes(), 1, shape.file, shape.cache, 0));
+        let handle = open(&mut store, append, name, shape);
         for part in shape.parts() {
-            served(store.append_entries(append, handle, &part));
+            served(calls::append_entries(&mut store, append, handle, &part));
         }
     }
-    served(store.commit(append));
+    served(calls::commit(&mut store, append));
     store
 }
 
-pub fn served(reply: crate::store::Reply) -> u64 {
+pub fn served(reply: Reply) -> u64 {
     assert_eq!(reply.code, 0);
     reply.value
 }
 
 /// Begins an append, appends and commits.
-pub fn append(store: &mut Store, bytes: &[u8]) {
-    let append = served(store.append());
-    served(store.append_entries(append, 1, bytes));
-    served(store.commit(append));
+pub fn append(store: &mut Owned, bytes: &[u8]) {
+    let append = served(calls::append(store));
+    served(calls::append_entries(store, append, 1, bytes));
+    served(calls::commit(store, append));
 }
 
-pub fn begin_and_drop(store: &mut Store) {
-    let reader = served(store.reader());
-    served(store.drop_transaction(reader));
+pub fn begin_and_drop(store: &mut Owned) {
+    let reader = served(calls::reader(store));
+    served(calls::drop_transaction(store, reader));
 }
 
 /// A new session that opens every tape.
-pub fn reopen(store: &mut Store, shape: &Shape) {
-    served(store.store());
-    let append = served(store.append());
+pub fn reopen(store: &mut Owned, shape: &Shape) {
+    served(calls::store(store));
+    let append = served(calls::append(store));
     for name in shape.names {
-        served(store.open(append, name.as_bytes(), 1, shape.file, shape.cache, 0));
+        open(store, append, name, shape);
     }
-    served(store.drop_transaction(append));
+    served(calls::drop_transaction(store, append));
 }

@@ -3,7 +3,8 @@
 use std::hint::black_box;
 
 use blake2::Digest;
-use tapes::{Tapes, TapesRead};
+use cuprate_tapes::{Tapes, TapesRead};
+use tapes::calls;
 
 use crate::{Bench, Row, Shape, inside, meter::Meter, ours, theirs};
 
@@ -69,11 +70,11 @@ impl Bench {
             2_000,
             || {
                 let mut store = ours::prepared(shape);
-                let reader = ours::served(store.reader());
+                let reader = ours::served(calls::reader(&mut store));
                 (store, reader)
             },
             |(store, reader)| {
-                ours::served(store.read_entries(*reader, 1, offset, count, black_box(&mut out)));
+                ours::served(calls::read_entries(store, *reader, 1, offset, count, black_box(&mut out)));
             },
         );
         let mut same = vec![0; count as usize];
@@ -99,7 +100,7 @@ impl Bench {
             || {
                 let mut store = ours::prepared(shape);
                 for _ in 0..readers {
-                    ours::served(store.reader());
+                    ours::served(calls::reader(&mut store));
                 }
                 store
             },
@@ -123,7 +124,7 @@ impl Bench {
             || {
                 let mut store = ours::prepared(shape);
                 for _ in 0..readers {
-                    ours::served(store.reader());
+                    ours::served(calls::reader(&mut store));
                 }
                 store
             },
@@ -149,11 +150,11 @@ impl Bench {
             2_000,
             || {
                 let mut store = ours::prepared(&shape);
-                let reader = ours::served(store.reader());
+                let reader = ours::served(calls::reader(&mut store));
                 (store, reader)
             },
             |(store, reader)| {
-                black_box(ours::served(store.len(*reader, 1)));
+                black_box(ours::served(calls::len(store, *reader, 1)));
             },
         );
         let theirs = self.meter.cost(
@@ -179,7 +180,7 @@ impl Bench {
             500,
             || ours::prepared(&shape),
             |store| {
-                ours::served(store.store());
+                ours::served(calls::store(store));
             },
         );
         let prepare = || theirs::prepared(&self.root, &shape);

@@ -2,7 +2,7 @@
 
 use std::{fs, path::Path};
 
-use tapes::{
+use cuprate_tapes::{
     CachedBlobTape, CachedTapeOpenOptions, Persistence, RollingBlobTape, RollingTapeOpenOptions, Tapes, TapesAppend,
     TapesAppendTransaction,
 };

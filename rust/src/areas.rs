@@ -1,6 +1,6 @@
 //! The two areas of memory that a store lives in.
 
-use crate::{calls, Error};
+use crate::{calls, error::answer, Error};
 
 /// How many bytes the disk needs for so many slots (of more than 64, as for 64).
 pub fn disk_bytes(slots: u64) -> usize {
@@ -91,6 +91,5 @@ impl<A: Areas + ?Sized> Areas for &mut A {
 ///
 /// [`Error::BadSize`] for the number of slots, [`Error::Unusable`] for an area that is too small.
 pub fn format<A: Areas + ?Sized>(areas: &mut A, slots: u64) -> Result<(), Error> {
-    let (disk, session) = areas.areas_mut();
-    calls::format(disk, session, slots).map(drop)
+    answer(calls::format(areas, slots)).map(drop)
 }

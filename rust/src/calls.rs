@@ -1,41 +1,17 @@
-//! The C functions as safe ones, a slice for each pointer and its length. This is the only module with `unsafe` in it.
+//! The C functions as safe ones: the two areas, numbers and slices in, the plain reply out. This is the only module with
+//! `unsafe` in it.
 //!
 //! What makes them safe: every function takes slices of any length with any bytes in them (none has a `requires`), reads and
 //! writes inside of them alone, keeps no pointer, and writes only through those that are `*mut`. Rust's borrows see to the
 //! rest: what is lent lives for the whole call, and nothing that is lent for writing is lent a second time.
 
-#![allow(unsafe_code)]
+#![allow(unsafe_code, missing_docs)]
 
-use crate::{
-    ffi::{self, Reply},
-    tape::Shape,
-    Error,
-};
+pub use crate::ffi::Reply;
+use crate::{areas::Areas, ffi, tape::Shape};
 
-/// What a call answers: its value, or why it was refused.
-pub type Answer = Result<u64, Error>;
-
-/// Of one entry: its index, or none where there is no such entry.
-pub type OneEntry = Result<Option<u64>, Error>;
-
-/// A transaction and a handle in it, by their numbers.
-#[derive(Clone, Copy)]
-pub struct On {
-    pub transaction: u64,
-    pub handle: u64,
-}
-
-fn answer(Reply { code, value }: Reply) -> Answer {
-    match Error::of(code, value) {
-        None => Ok(value),
-        Some(error) => Err(error),
-    }
-}
-
-/// 2^64-1 stands for no entry: no index is that large, since lengths are below 2^64.
-fn one_entry(reply: Reply) -> OneEntry {
-    answer(reply).map(|index| (index != u64::MAX).then_some(index))
-}
+/// What [`read_entry`] and [`pop_entry`] have as value where there is no entry: no index is that large.
+pub const NO_ENTRY: u64 = u64::MAX;
 
 pub fn disk_bytes(slots: u64) -> u64 {
     // SAFETY: a number in, a number out
@@ -47,35 +23,41 @@ pub fn session_bytes() -> u64 {
     unsafe { ffi::tapes_session_bytes() }
 }
 
-pub fn format(disk: &mut [u8], session: &mut [u8], slots: u64) -> Answer {
+pub fn format<A: Areas + ?Sized>(areas: &mut A, slots: u64) -> Reply {
+    let (disk, session) = areas.areas_mut();
     // SAFETY: both areas are borrowed for writing while the call runs
-    answer(unsafe { ffi::tapes_format(disk.as_mut_ptr(), disk.len(), session.as_mut_ptr(), session.len(), slots) })
+    unsafe { ffi::tapes_format(disk.as_mut_ptr(), disk.len(), session.as_mut_ptr(), session.len(), slots) }
 }
 
-pub fn store(disk: &[u8], session: &mut [u8]) -> Answer {
-    // SAFETY: both areas are borrowed while the call runs, the session for writing
-    answer(unsafe { ffi::tapes_store(disk.as_ptr(), disk.len(), session.as_mut_ptr(), session.len()) })
+pub fn store<A: Areas + ?Sized>(areas: &mut A) -> Reply {
+    let (disk, session) = areas.areas_mut();
+    // SAFETY: both areas are borrowed for writing while the call runs
+    unsafe { ffi::tapes_store(disk.as_ptr(), disk.len(), session.as_mut_ptr(), session.len()) }
 }
 
-pub fn append(disk: &[u8], session: &mut [u8]) -> Answer {
-    // SAFETY: both areas are borrowed while the call runs, the session for writing
-    answer(unsafe { ffi::tapes_append(disk.as_ptr(), disk.len(), session.as_mut_ptr(), session.len()) })
+pub fn append<A: Areas + ?Sized>(areas: &mut A) -> Reply {
+    let (disk, session) = areas.areas_mut();
+    // SAFETY: both areas are borrowed for writing while the call runs
+    unsafe { ffi::tapes_append(disk.as_ptr(), disk.len(), session.as_mut_ptr(), session.len()) }
 }
 
-pub fn reader(disk: &[u8], session: &mut [u8]) -> Answer {
-    // SAFETY: both areas are borrowed while the call runs, the session for writing
-    answer(unsafe { ffi::tapes_reader(disk.as_ptr(), disk.len(), session.as_mut_ptr(), session.len()) })
+pub fn reader<A: Areas + ?Sized>(areas: &mut A) -> Reply {
+    let (disk, session) = areas.areas_mut();
+    // SAFETY: both areas are borrowed for writing while the call runs
+    unsafe { ffi::tapes_reader(disk.as_ptr(), disk.len(), session.as_mut_ptr(), session.len()) }
 }
 
-pub fn truncate(disk: &[u8], session: &mut [u8]) -> Answer {
-    // SAFETY: both areas are borrowed while the call runs, the session for writing
-    answer(unsafe { ffi::tapes_truncate(disk.as_ptr(), disk.len(), session.as_mut_ptr(), session.len()) })
+pub fn truncate<A: Areas + ?Sized>(areas: &mut A) -> Reply {
+    let (disk, session) = areas.areas_mut();
+    // SAFETY: both areas are borrowed for writing while the call runs
+    unsafe { ffi::tapes_truncate(disk.as_ptr(), disk.len(), session.as_mut_ptr(), session.len()) }
 }
 
-pub fn open(disk: &mut [u8], session: &mut [u8], transaction: u64, name: &[u8], shape: Shape) -> Answer {
+pub fn open<A: Areas + ?Sized>(areas: &mut A, transaction: u64, name: &[u8], shape: Shape) -> Reply {
+    let (disk, session) = areas.areas_mut();
     let Shape { entry_size, file_size, cache, start } = shape;
     // SAFETY: both areas are borrowed for writing while the call runs, the name for reading
-    answer(unsafe {
+    unsafe {
         ffi::tapes_open(
             disk.as_mut_ptr(),
             disk.len(),
@@ -89,120 +71,135 @@ pub fn open(disk: &mut [u8], session: &mut [u8], transaction: u64, name: &[u8], 
             cache,
             start,
         )
-    })
+    }
 }
 
-pub fn append_entries(disk: &mut [u8], session: &mut [u8], on: On, entries: &[u8]) -> Answer {
+pub fn append_entries<A: Areas + ?Sized>(areas: &mut A, transaction: u64, handle: u64, entries: &[u8]) -> Reply {
+    let (disk, session) = areas.areas_mut();
     // SAFETY: both areas are borrowed for writing while the call runs, the entries for reading
-    answer(unsafe {
+    unsafe {
         ffi::tapes_append_entries(
             disk.as_mut_ptr(),
             disk.len(),
             session.as_mut_ptr(),
             session.len(),
-            on.transaction,
-            on.handle,
+            transaction,
+            handle,
             entries.as_ptr(),
             entries.len(),
         )
-    })
+    }
 }
 
-pub fn shift_start(disk: &[u8], session: &mut [u8], on: On, index: u64) -> Answer {
+pub fn shift_start<A: Areas + ?Sized>(areas: &mut A, transaction: u64, handle: u64, index: u64) -> Reply {
+    let (disk, session) = areas.areas_mut();
     let (disk, disk_len, session, session_len) = (disk.as_ptr(), disk.len(), session.as_mut_ptr(), session.len());
-    // SAFETY: both areas are borrowed while the call runs, the session for writing
-    answer(unsafe { ffi::tapes_shift_start(disk, disk_len, session, session_len, on.transaction, on.handle, index) })
+    // SAFETY: both areas are borrowed for writing while the call runs
+    unsafe { ffi::tapes_shift_start(disk, disk_len, session, session_len, transaction, handle, index) }
 }
 
-pub fn truncate_tape(disk: &[u8], session: &mut [u8], on: On, len: u64) -> Answer {
+pub fn truncate_tape<A: Areas + ?Sized>(areas: &mut A, transaction: u64, handle: u64, len: u64) -> Reply {
+    let (disk, session) = areas.areas_mut();
     let (disk, disk_len, session, session_len) = (disk.as_ptr(), disk.len(), session.as_mut_ptr(), session.len());
-    // SAFETY: both areas are borrowed while the call runs, the session for writing
-    answer(unsafe { ffi::tapes_truncate_tape(disk, disk_len, session, session_len, on.transaction, on.handle, len) })
+    // SAFETY: both areas are borrowed for writing while the call runs
+    unsafe { ffi::tapes_truncate_tape(disk, disk_len, session, session_len, transaction, handle, len) }
 }
 
-pub fn drop_entries(disk: &[u8], session: &mut [u8], on: On, count: u64) -> Answer {
+pub fn drop_entries<A: Areas + ?Sized>(areas: &mut A, transaction: u64, handle: u64, count: u64) -> Reply {
+    let (disk, session) = areas.areas_mut();
     let (disk, disk_len, session, session_len) = (disk.as_ptr(), disk.len(), session.as_mut_ptr(), session.len());
-    // SAFETY: both areas are borrowed while the call runs, the session for writing
-    answer(unsafe { ffi::tapes_drop_entries(disk, disk_len, session, session_len, on.transaction, on.handle, count) })
+    // SAFETY: both areas are borrowed for writing while the call runs
+    unsafe { ffi::tapes_drop_entries(disk, disk_len, session, session_len, transaction, handle, count) }
 }
 
-pub fn len(disk: &[u8], session: &[u8], on: On) -> Answer {
-    let (disk, disk_len, session, session_len) = (disk.as_ptr(), disk.len(), session.as_ptr(), session.len());
+pub fn len<A: Areas + ?Sized>(areas: &A, transaction: u64, handle: u64) -> Reply {
+    let (disk, session) = areas.areas();
     // SAFETY: both areas are borrowed for reading while the call runs
-    answer(unsafe { ffi::tapes_len(disk, disk_len, session, session_len, on.transaction, on.handle) })
+    unsafe { ffi::tapes_len(disk.as_ptr(), disk.len(), session.as_ptr(), session.len(), transaction, handle) }
 }
 
-pub fn start(disk: &[u8], session: &[u8], on: On) -> Answer {
-    let (disk, disk_len, session, session_len) = (disk.as_ptr(), disk.len(), session.as_ptr(), session.len());
+pub fn start<A: Areas + ?Sized>(areas: &A, transaction: u64, handle: u64) -> Reply {
+    let (disk, session) = areas.areas();
     // SAFETY: both areas are borrowed for reading while the call runs
-    answer(unsafe { ffi::tapes_start(disk, disk_len, session, session_len, on.transaction, on.handle) })
+    unsafe { ffi::tapes_start(disk.as_ptr(), disk.len(), session.as_ptr(), session.len(), transaction, handle) }
 }
 
-pub fn exists(disk: &[u8], session: &[u8], transaction: u64, name: &[u8]) -> Answer {
+pub fn exists<A: Areas + ?Sized>(areas: &A, transaction: u64, name: &[u8]) -> Reply {
+    let (disk, session) = areas.areas();
     let (disk, disk_len, session, session_len) = (disk.as_ptr(), disk.len(), session.as_ptr(), session.len());
     // SAFETY: both areas and the name are borrowed for reading while the call runs
-    answer(unsafe { ffi::tapes_exists(disk, disk_len, session, session_len, transaction, name.as_ptr(), name.len()) })
+    unsafe { ffi::tapes_exists(disk, disk_len, session, session_len, transaction, name.as_ptr(), name.len()) }
 }
 
-pub fn read_entries(disk: &[u8], session: &[u8], on: On, index: u64, count: u64, out: &mut [u8]) -> Answer {
+pub fn read_entries<A: Areas + ?Sized>(
+    areas: &A,
+    transaction: u64,
+    handle: u64,
+    index: u64,
+    count: u64,
+    out: &mut [u8],
+) -> Reply {
+    let (disk, session) = areas.areas();
     // SAFETY: both areas are borrowed for reading while the call runs, the buffer for writing
-    answer(unsafe {
+    unsafe {
         ffi::tapes_read_entries(
             disk.as_ptr(),
             disk.len(),
             session.as_ptr(),
             session.len(),
-            on.transaction,
-            on.handle,
+            transaction,
+            handle,
             index,
             count,
             out.as_mut_ptr(),
             out.len(),
         )
-    })
+    }
 }
 
-pub fn read_entry(disk: &[u8], session: &[u8], on: On, index: u64, out: &mut [u8]) -> OneEntry {
+pub fn read_entry<A: Areas + ?Sized>(areas: &A, transaction: u64, handle: u64, index: u64, out: &mut [u8]) -> Reply {
+    let (disk, session) = areas.areas();
     // SAFETY: both areas are borrowed for reading while the call runs, the buffer for writing
-    one_entry(unsafe {
+    unsafe {
         ffi::tapes_read_entry(
             disk.as_ptr(),
             disk.len(),
             session.as_ptr(),
             session.len(),
-            on.transaction,
-            on.handle,
+            transaction,
+            handle,
             index,
             out.as_mut_ptr(),
             out.len(),
         )
-    })
+    }
 }
 
-pub fn pop_entry(disk: &[u8], session: &mut [u8], on: On, out: &mut [u8]) -> OneEntry {
-    // SAFETY: both areas are borrowed while the call runs, the session and the buffer for writing
-    one_entry(unsafe {
+pub fn pop_entry<A: Areas + ?Sized>(areas: &mut A, transaction: u64, handle: u64, out: &mut [u8]) -> Reply {
+    let (disk, session) = areas.areas_mut();
+    // SAFETY: both areas and the buffer are borrowed for writing while the call runs
+    unsafe {
         ffi::tapes_pop_entry(
             disk.as_ptr(),
             disk.len(),
             session.as_mut_ptr(),
             session.len(),
-            on.transaction,
-            on.handle,
+            transaction,
+            handle,
             out.as_mut_ptr(),
             out.len(),
         )
-    })
+    }
 }
 
-pub fn commit(disk: &mut [u8], session: &mut [u8], transaction: u64) -> Answer {
-    let (disk, disk_len, session, session_len) = (disk.as_mut_ptr(), disk.len(), session.as_mut_ptr(), session.len());
+pub fn commit<A: Areas + ?Sized>(areas: &mut A, transaction: u64) -> Reply {
+    let (disk, session) = areas.areas_mut();
     // SAFETY: both areas are borrowed for writing while the call runs
-    answer(unsafe { ffi::tapes_commit(disk, disk_len, session, session_len, transaction) })
+    unsafe { ffi::tapes_commit(disk.as_mut_ptr(), disk.len(), session.as_mut_ptr(), session.len(), transaction) }
 }
 
-pub fn drop_transaction(disk: &[u8], session: &mut [u8], transaction: u64) -> Answer {
-    let (disk, disk_len, session, session_len) = (disk.as_ptr(), disk.len(), session.as_mut_ptr(), session.len());
-    // SAFETY: both areas are borrowed while the call runs, the session for writing
-    answer(unsafe { ffi::tapes_drop(disk, disk_len, session, session_len, transaction) })
+pub fn drop_transaction<A: Areas + ?Sized>(areas: &mut A, transaction: u64) -> Reply {
+    let (disk, session) = areas.areas_mut();
+    // SAFETY: both areas are borrowed for writing while the call runs
+    unsafe { ffi::tapes_drop(disk.as_ptr(), disk.len(), session.as_mut_ptr(), session.len(), transaction) }
 }

@@ -2,6 +2,18 @@
 
 use std::fmt;
 
+use crate::calls::Reply;
+
+/// What a call answers: its value, or why it was refused.
+pub(crate) type Answer = Result<u64, Error>;
+
+pub(crate) fn answer(Reply { code, value }: Reply) -> Answer {
+    match Error::of(code, value) {
+        None => Ok(value),
+        Some(error) => Err(error),
+    }
+}
+
 /// A refusal. A refused call changed no byte of the areas or of a buffer, and the transaction it was made in is still open.
 #[derive(Clone, Copy, Debug, PartialEq, Eq, Hash)]
 #[non_exhaustive]
@@ -54,7 +66,7 @@ pub enum Error {
 
 impl Error {
     /// Of a code and its value; none where the call was served.
-    pub(crate) fn of(code: u64, value: u64) -> Option<Self> {
+    fn of(code: u64, value: u64) -> Option<Self> {
         Some(match code {
             0 => return None,
             1 => Self::Unusable,

@@ -2,6 +2,7 @@
 //! these declarations against the functions.
 
 /// A code, 0 or the refusal's number, and a value.
+#[allow(missing_docs)]
 #[repr(C)]
 #[derive(Clone, Copy, Debug, PartialEq, Eq)]
 pub struct Reply {

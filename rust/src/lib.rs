@@ -49,7 +49,10 @@
 #![warn(missing_docs)]
 
 mod areas;
-mod calls;
+// no part of the API: for programs that test or measure the C functions themselves, on any areas and with any numbers, and
+// need their replies as they are (`beside/linked`, `bench`)
+#[doc(hidden)]
+pub mod calls;
 mod error;
 mod ffi;
 mod store;

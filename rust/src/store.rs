@@ -8,7 +8,8 @@ use std::{
 
 use crate::{
     areas::{format, Areas, Owned},
-    calls,
+    calls::{self, Reply},
+    error::{answer, Answer},
     transaction::{Append, Reader, Truncate},
     view::View,
     Error, Refused,
@@ -51,8 +52,7 @@ impl<A: Areas> Store<A> {
     ///
     /// [`Error::Unusable`], [`Error::BadList`]; the areas come back with it.
     pub fn begin(mut areas: A) -> Result<Self, Refused<A>> {
-        let (disk, session) = areas.areas_mut();
-        match calls::store(disk, session) {
+        match answer(calls::store(&mut areas)) {
             Ok(epoch) => Ok(Self { areas: RefCell::new(areas), epoch: Cell::new(epoch), session: next_session() }),
             Err(error) => Err(Refused { error, back: areas }),
         }
@@ -75,7 +75,7 @@ impl<A: Areas> Store<A> {
     ///
     /// [`Error::Unusable`], [`Error::BadList`], for areas that somebody else changed; the old session then goes on.
     pub fn restart(&mut self) -> Result<u64, Error> {
-        let epoch = self.writing(|disk, session| calls::store(disk, session))?;
+        let epoch = self.writing(calls::store)?;
         self.epoch.set(epoch);
         self.session = next_session();
         Ok(epoch)
@@ -92,7 +92,7 @@ impl<A: Areas> Store<A> {
     ///
     /// [`Error::Full`] if 16 are open.
     pub fn reader(&self) -> Result<Reader<'_, A>, Error> {
-        let number = self.writing(|disk, session| calls::reader(disk, session))?;
+        let number = self.writing(calls::reader)?;
         Ok(Reader::new(View::new(self, number)))
     }
 
@@ -103,7 +103,7 @@ impl<A: Areas> Store<A> {
     /// [`Error::WriterOpen`] while an append or a truncate is open; [`Error::Wait`] if the last commit was a truncate's and
     /// windows are open that began before it. Once exactly these are closed it is let in, however many opened since.
     pub fn append(&self) -> Result<Append<'_, A>, Error> {
-        let number = self.writing(|disk, session| calls::append(disk, session))?;
+        let number = self.writing(calls::append)?;
         Ok(Append::new(View::new(self, number)))
     }
 
@@ -113,13 +113,13 @@ impl<A: Areas> Store<A> {
     ///
     /// [`Error::WriterOpen`] while an append or a truncate is open.
     pub fn truncate(&self) -> Result<Truncate<'_, A>, Error> {
-        let number = self.writing(|disk, session| calls::truncate(disk, session))?;
+        let number = self.writing(calls::truncate)?;
         Ok(Truncate::new(View::new(self, number)))
     }
 
     /// The disk's bytes as they are now, to be kept: a session begun on them finds what is committed now.
     pub fn copy_disk(&self) -> Vec<u8> {
-        self.reading(|disk, _| disk.to_vec())
+        self.areas.borrow().areas().0.to_vec()
     }
 
     /// Gives the areas back. What is committed is on the disk.
@@ -136,18 +136,14 @@ impl<A: Areas> Store<A> {
         self.epoch.set(epoch);
     }
 
-    /// Lends the disk and the session to a call.
-    pub(crate) fn reading<R>(&self, call: impl FnOnce(&[u8], &[u8]) -> R) -> R {
-        let areas = self.areas.borrow();
-        let (disk, session) = areas.areas();
-        call(disk, session)
+    /// Lends the areas to a call.
+    pub(crate) fn reading(&self, call: impl FnOnce(&A) -> Reply) -> Answer {
+        answer(call(&self.areas.borrow()))
     }
 
-    /// Lends the disk and the session to a call that writes.
-    pub(crate) fn writing<R>(&self, call: impl FnOnce(&mut [u8], &mut [u8]) -> R) -> R {
-        let mut areas = self.areas.borrow_mut();
-        let (disk, session) = areas.areas_mut();
-        call(disk, session)
+    /// Lends the areas to a call that writes.
+    pub(crate) fn writing(&self, call: impl FnOnce(&mut A) -> Reply) -> Answer {
+        answer(call(&mut self.areas.borrow_mut()))
     }
 }
 

@@ -6,7 +6,7 @@ use crate::{
     areas::{Areas, Owned},
     calls,
     tape::{Shape, Tape},
-    view::{ended, front, View},
+    view::{ended, entry_at, front, View},
     Error, Refused,
 };
 
@@ -69,7 +69,7 @@ impl<A: Areas> Append<'_, A> {
     /// [`Error::Unusable`], for areas that somebody else changed.
     pub fn exists(&self, name: impl AsRef<[u8]>) -> Result<bool, Error> {
         let (number, name) = (self.number(), name.as_ref());
-        let found = self.0.store().reading(|disk, session| calls::exists(disk, session, number, name))?;
+        let found = self.0.store().reading(|areas| calls::exists(areas, number, name))?;
         Ok(found != 0)
     }
 
@@ -82,7 +82,7 @@ impl<A: Areas> Append<'_, A> {
     /// was written with another file size.
     pub fn open(&mut self, name: impl AsRef<[u8]>, shape: Shape) -> Result<Tape, Error> {
         let (store, number, name) = (self.0.store(), self.number(), name.as_ref());
-        let handle = store.writing(|disk, session| calls::open(disk, session, number, name, shape))?;
+        let handle = store.writing(|areas| calls::open(areas, number, name, shape))?;
         Ok(Tape { number: handle, entry_size: shape.entry_size, session: store.session() })
     }
 
@@ -93,8 +93,8 @@ impl<A: Areas> Append<'_, A> {
     /// [`Error::NotWhole`] if the bytes are no multiple of the entry size; [`Error::NoSlot`]; [`Error::TooLarge`] for a length;
     /// [`Error::Unknown`].
     pub fn append_entries(&mut self, tape: Tape, entries: impl AsRef<[u8]>) -> Result<u64, Error> {
-        let (on, entries) = (self.on(tape), entries.as_ref());
-        self.0.store().writing(|disk, session| calls::append_entries(disk, session, on, entries))
+        let (number, handle, entries) = (self.number(), self.handle(tape), entries.as_ref());
+        self.0.store().writing(|areas| calls::append_entries(areas, number, handle, entries))
     }
 
     /// Moves a tape's start up to an index, or leaves it where it is higher already.
@@ -103,8 +103,8 @@ impl<A: Areas> Append<'_, A> {
     ///
     /// [`Error::StartPastLength`], [`Error::Unknown`].
     pub fn shift_start(&mut self, tape: Tape, index: u64) -> Result<(), Error> {
-        let on = self.on(tape);
-        self.0.store().writing(|disk, session| calls::shift_start(disk, session, on, index)).map(drop)
+        let (number, handle) = (self.number(), self.handle(tape));
+        self.0.store().writing(|areas| calls::shift_start(areas, number, handle, index)).map(drop)
     }
 
     /// Publishes what was staged, and gives the new epoch. It is over then:
@@ -135,8 +135,8 @@ impl<A: Areas> Truncate<'_, A> {
     ///
     /// [`Error::LongerCut`], [`Error::Unknown`].
     pub fn truncate_tape(&mut self, tape: Tape, len: u64) -> Result<(), Error> {
-        let on = self.on(tape);
-        self.0.store().writing(|disk, session| calls::truncate_tape(disk, session, on, len)).map(drop)
+        let (number, handle) = (self.number(), self.handle(tape));
+        self.0.store().writing(|areas| calls::truncate_tape(areas, number, handle, len)).map(drop)
     }
 
     /// Drops so many entries from a tape's end, at most all.
@@ -145,8 +145,8 @@ impl<A: Areas> Truncate<'_, A> {
     ///
     /// [`Error::Unknown`].
     pub fn drop_entries(&mut self, tape: Tape, count: u64) -> Result<(), Error> {
-        let on = self.on(tape);
-        self.0.store().writing(|disk, session| calls::drop_entries(disk, session, on, count)).map(drop)
+        let (number, handle) = (self.number(), self.handle(tape));
+        self.0.store().writing(|areas| calls::drop_entries(areas, number, handle, count)).map(drop)
     }
 
     /// Cuts off a tape's last entry, and gives its index and its bytes; none where the tape has no entry at or above its start.
@@ -167,9 +167,9 @@ impl<A: Areas> Truncate<'_, A> {
     ///
     /// As [`Truncate::pop_entry`]; [`Error::NotWhole`] if the buffer is too short.
     pub fn pop_entry_into<'b>(&mut self, tape: Tape, out: &'b mut [u8]) -> Result<Option<(u64, &'b [u8])>, Error> {
-        let on = self.on(tape);
-        let popped = self.0.store().writing(|disk, session| calls::pop_entry(disk, session, on, out))?;
-        Ok(popped.map(|index| (index, front(out, tape.entry_size()))))
+        let (number, handle) = (self.number(), self.handle(tape));
+        let popped = self.0.store().writing(|areas| calls::pop_entry(areas, number, handle, out))?;
+        Ok(entry_at(popped).map(|index| (index, front(out, tape.entry_size()))))
     }
 
     /// Publishes what was staged, and gives the new epoch. Appends wait then for the windows that are open now.

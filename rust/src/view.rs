@@ -4,7 +4,8 @@ use std::{fmt, mem};
 
 use crate::{
     areas::{Areas, Owned},
-    calls::{self, Answer, On},
+    calls,
+    error::Answer,
     store::Store,
     tape::Tape,
     Error, Refused,
@@ -42,8 +43,7 @@ impl<'s, A: Areas> View<'s, A> {
     ///
     /// [`Error::Absent`], [`Error::Unknown`].
     pub fn len(&self, tape: Tape) -> Result<u64, Error> {
-        let on = self.on(tape);
-        self.store.reading(|disk, session| calls::len(disk, session, on))
+        self.store.reading(|areas| calls::len(areas, self.number, self.handle(tape)))
     }
 
     /// The index of a tape's first entry. In a truncate that has cut below it, it is past the length until the commit.
@@ -52,8 +52,7 @@ impl<'s, A: Areas> View<'s, A> {
     ///
     /// [`Error::Absent`], [`Error::Unknown`].
     pub fn start(&self, tape: Tape) -> Result<u64, Error> {
-        let on = self.on(tape);
-        self.store.reading(|disk, session| calls::start(disk, session, on))
+        self.store.reading(|areas| calls::start(areas, self.number, self.handle(tape)))
     }
 
     /// Reads so many entries from an index on.
@@ -88,8 +87,8 @@ impl<'s, A: Areas> View<'s, A> {
         count: u64,
         out: &'b mut [u8],
     ) -> Result<&'b [u8], Error> {
-        let on = self.on(tape);
-        let read = self.store.reading(|disk, session| calls::read_entries(disk, session, on, index, count, out))?;
+        let (number, handle) = (self.number, self.handle(tape));
+        let read = self.store.reading(|areas| calls::read_entries(areas, number, handle, index, count, out))?;
         Ok(front(out, read.saturating_mul(tape.entry_size)))
     }
 
@@ -110,29 +109,32 @@ impl<'s, A: Areas> View<'s, A> {
     ///
     /// As [`View::read_entry`]; [`Error::NotWhole`] if the buffer is too short.
     pub fn read_entry_into<'b>(&self, tape: Tape, index: u64, out: &'b mut [u8]) -> Result<Option<&'b [u8]>, Error> {
-        let on = self.on(tape);
-        let found = self.store.reading(|disk, session| calls::read_entry(disk, session, on, index, out))?;
-        Ok(found.map(|_| front(out, tape.entry_size)))
+        let (number, handle) = (self.number, self.handle(tape));
+        let found = self.store.reading(|areas| calls::read_entry(areas, number, handle, index, out))?;
+        Ok(entry_at(found).map(|_| front(out, tape.entry_size)))
     }
 
     pub(crate) fn store(&self) -> &'s Store<A> {
         self.store
     }
 
-    /// The numbers for a call on a tape. No tape has the number 0, so one of another session is refused in its turn.
-    pub(crate) fn on(&self, tape: Tape) -> On {
-        let known = tape.session == self.store.session();
-        On { transaction: self.number, handle: if known { tape.number } else { 0 } }
+    /// The number for a call on a tape. No tape has the number 0, so one of another session is refused in its turn.
+    pub(crate) fn handle(&self, tape: Tape) -> u64 {
+        if tape.session == self.store.session() {
+            tape.number
+        } else {
+            0
+        }
     }
 
     pub(crate) fn commit(&self) -> Answer {
-        let epoch = self.store.writing(|disk, session| calls::commit(disk, session, self.number))?;
+        let epoch = self.store.writing(|areas| calls::commit(areas, self.number))?;
         self.store.set_epoch(epoch);
         Ok(epoch)
     }
 
     pub(crate) fn close(&self) -> Answer {
-        self.store.writing(|disk, session| calls::drop_transaction(disk, session, self.number))
+        self.store.writing(|areas| calls::drop_transaction(areas, self.number))
     }
 }
 
@@ -147,6 +149,11 @@ impl<A: Areas> fmt::Debug for View<'_, A> {
     fn fmt(&self, f: &mut fmt::Formatter<'_>) -> fmt::Result {
         f.debug_struct("View").field("number", &self.number).finish_non_exhaustive()
     }
+}
+
+/// The index that a call on one entry gave; none where there is no such entry.
+pub(crate) fn entry_at(value: u64) -> Option<u64> {
+    (value != calls::NO_ENTRY).then_some(value)
 }
 
 /// Of a served call so much was written.

@@ -1,18 +1,12 @@
-//! Where things stand in the two areas, as docs/LAYOUT.md has it. Nothing here trusts an area: what lies behind its end is 0.
+//! Where things stand in the two areas, as docs/LAYOUT.md has it; of the disk, `disk.rs` has the offsets. Nothing here trusts an area: what
+//! lies behind its end is 0.
 
-use oracle::{Listed, Record, choose, decode_list, hex};
+use oracle::{Listed, Record, choose, decode_list};
 
-const SLOT_COUNT: usize = 8;
-const LEFT_LEN: usize = 16;
-const RIGHT_LEN: usize = 24;
-const DIRECTORIES: usize = 32;
-const LEFT: usize = 288;
-const RIGHT: usize = 800;
-const FILE_TABLE: usize = 1312;
-const SLOTS: usize = 2848;
-const FILE_ROW: usize = 24;
-const SLOT_BYTES: usize = 4096;
-const MOST_SLOTS: usize = 64;
+use crate::disk::{
+    DIRECTORIES, FILE_TABLE, LONGEST_NAME, MOST_NAMES, MOST_SLOTS, PLACE_BYTES, SLOT_BYTES, SLOT_COUNT, SLOTS, left,
+    name, right, word,
+};
 
 const HEAD: usize = 8;
 const TAPE_PLACES: usize = 48;
@@ -27,90 +21,24 @@ const TRANSACTION_ROW: usize = 24;
 const TAPE_ROW: usize = 96;
 
 const SESSION_MARK: &[u8] = b"tapesess";
-/// Of a place in either table of names.
-const PLACE_BYTES: usize = 32;
-const MOST_NAMES: usize = 8;
-const LONGEST_NAME: u64 = 24;
-
-fn word(area: &[u8], at: usize) -> u64 {
-    let bytes = area.get(at..at + 8).and_then(|bytes| bytes.try_into().ok());
-    bytes.map_or(0, u64::from_le_bytes)
-}
-
-fn bytes(area: &[u8], at: usize, length: u64) -> &[u8] {
-    let from = area.get(at..).unwrap_or_default();
-    from.get(..length as usize).unwrap_or_default()
-}
-
-/// In one of the tables of names; a free place has an empty one.
-fn name(area: &[u8], table: usize, place: usize) -> &[u8] {
-    let at = table + place * PLACE_BYTES;
-    bytes(area, at + 8, word(area, at).min(LONGEST_NAME))
-}
 
 /// Of a disk, what is behind is never looked at.
 pub fn disk_bytes(slots: u64) -> usize {
-    SLOTS + SLOT_BYTES * slots.min(MOST_SLOTS as u64) as usize
+    SLOTS + SLOT_BYTES * slots.min(MOST_SLOTS) as usize
 }
 
 pub fn slot_count(disk: &[u8]) -> u64 {
     word(disk, SLOT_COUNT)
 }
 
-/// The names of the directories, each with the number that owns its files, sorted.
-pub fn directories(disk: &[u8]) -> Vec<(&[u8], u64)> {
-    let places = (0..MOST_NAMES).map(|place| (name(disk, DIRECTORIES, place), place as u64 + 1));
-    let mut found: Vec<_> = places.filter(|(name, _)| !name.is_empty()).collect();
-    found.sort_unstable();
-    found
-}
-
-/// The files of an owner, by number.
-fn files(disk: &[u8], owner: u64) -> Vec<(u64, &[u8])> {
-    let row = |slot: usize| FILE_TABLE + slot * FILE_ROW;
-    let slots = (0..slot_count(disk).min(MOST_SLOTS as u64) as usize).filter(|slot| word(disk, row(*slot)) == owner);
-    let file = |slot| (word(disk, row(slot) + 8), bytes(disk, SLOTS + slot * SLOT_BYTES, word(disk, row(slot) + 16)));
-    let mut found: Vec<_> = slots.map(file).collect();
-    found.sort_unstable();
-    found
-}
-
-fn metadata(disk: &[u8]) -> [&[u8]; 2] {
-    [bytes(disk, LEFT, word(disk, LEFT_LEN)), bytes(disk, RIGHT, word(disk, RIGHT_LEN))]
-}
-
 /// The record that a store would begin with.
 pub fn record(disk: &[u8]) -> Record {
-    let [left, right] = metadata(disk);
-    choose(left, right)
+    choose(left(disk), right(disk))
 }
 
 /// The tapes of that record, if its list is one.
 pub fn listed(disk: &[u8]) -> Option<Vec<Listed>> {
     decode_list(&record(disk).list)
-}
-
-/// Makes these bytes left or right, where the area has room.
-pub fn put_metadata(disk: &mut [u8], left: bool, bytes: &[u8]) {
-    let (len_at, at) = if left { (LEFT_LEN, LEFT) } else { (RIGHT_LEN, RIGHT) };
-    if let Some(room) = disk.get_mut(at..at + bytes.len()) {
-        room.copy_from_slice(bytes);
-        disk[len_at..len_at + 8].copy_from_slice(&(bytes.len() as u64).to_le_bytes());
-    }
-}
-
-/// The disk as `oracle --disk` prints it.
-pub fn disk_text(disk: &[u8]) -> String {
-    let [left, right] = metadata(disk);
-    let mut text = format!("left\t{}\nright\t{}\n", hex(left), hex(right));
-    for (name, owner) in directories(disk) {
-        let name = String::from_utf8_lossy(name);
-        text += &format!("directory\t{name}\n");
-        for (number, bytes) in files(disk, owner) {
-            text += &format!("file\t{name}\t{number}\t{}\n", hex(bytes));
-        }
-    }
-    text
 }
 
 /// An open tape.
@@ -163,8 +91,8 @@ fn names(at: usize) -> impl Iterator<Item = Field> {
 }
 
 pub fn disk_fields(disk: &[u8]) -> Vec<Field> {
-    let slots = slot_count(disk).clamp(1, MOST_SLOTS as u64) as usize;
-    let head = table(0, 1, &[ANY, MOST_SLOTS as u64, 512, 512]);
+    let slots = slot_count(disk).clamp(1, MOST_SLOTS) as usize;
+    let head = table(0, 1, &[ANY, MOST_SLOTS, 512, 512]);
     head.chain(names(DIRECTORIES)).chain(table(FILE_TABLE, slots, &[8, ANY, SLOT_BYTES as u64])).collect()
 }
 

@@ -5,12 +5,12 @@
 
 use std::{fs, hint::black_box, io, path::Path, time::Instant};
 
-use tapes::{
+use cuprate_tapes::{
     CachedBlobTape, CachedTapeOpenOptions, Persistence, RollingBlobTape, RollingTapeOpenOptions, Tapes, TapesAppend,
     TapesRead,
 };
 
-use crate::store::Store;
+use tapes::{Owned, Shape, calls};
 
 const ROUNDS: usize = 9;
 const FILE: u64 = 4096;
@@ -30,16 +30,16 @@ fn nanoseconds(calls: u32, mut call: impl FnMut()) -> f64 {
 }
 
 /// A store with one tape of so many bytes, committed.
-fn ours(cache: u64) -> Store {
-    let mut store = Store::zeros(64);
-    assert_eq!(store.format(64).code, 0);
-    assert_eq!(store.store().code, 0);
-    assert_eq!(store.append().code, 0);
-    assert_eq!(store.open(1, b"a", 1, FILE, cache, 0).code, 0);
+fn ours(cache: u64) -> Owned {
+    let mut store = Owned::zeros(64);
+    assert_eq!(calls::format(&mut store, 64).code, 0);
+    assert_eq!(calls::store(&mut store).code, 0);
+    assert_eq!(calls::append(&mut store).code, 0);
+    assert_eq!(calls::open(&mut store, 1, b"a", Shape { file_size: FILE, cache, ..Shape::default() }).code, 0);
     for part in 0..HELD / 4096 {
-        assert_eq!(store.append_entries(1, 1, &[part as u8; 4096]).code, 0);
+        assert_eq!(calls::append_entries(&mut store, 1, 1, &[part as u8; 4096]).code, 0);
     }
-    assert_eq!(store.commit(1).code, 0);
+    assert_eq!(calls::commit(&mut store, 1).code, 0);
     store
 }
 
@@ -65,10 +65,10 @@ fn row(what: &str, ours: f64, theirs: f64) {
 
 fn read(root: &Path, what: &str, cache: u64, offset: u64, count: usize) -> io::Result<()> {
     let mut store = ours(cache);
-    let reader = store.reader().value;
+    let reader = calls::reader(&mut store).value;
     let mut out = vec![0; count];
     let ours = nanoseconds(20_000, || {
-        assert_eq!(black_box(&mut store).read_entries(reader, 1, offset, count as u64, &mut out).code, 0);
+        assert_eq!(calls::read_entries(black_box(&store), reader, 1, offset, count as u64, &mut out).code, 0);
     });
     let (tapes, tape) = theirs(root, cache)?;
     let reader = tapes.reader();
@@ -84,18 +84,18 @@ fn append(root: &Path) -> io::Result<()> {
     let bytes = [7; 100];
     let mut store = ours(4096);
     let ours = nanoseconds(calls, || {
-        let number = store.append().value;
-        let put = store.append_entries(number, 1, &bytes);
+        let number = calls::append(&mut store).value;
+        let put = calls::append_entries(&mut store, number, 1, &bytes);
         if put.code != 0 {
             assert_eq!(put.code, 15);
-            assert_eq!(store.drop_transaction(number).code, 0);
+            assert_eq!(calls::drop_transaction(&mut store, number).code, 0);
             store = self::ours(4096);
             return;
         }
         // the start follows, so that files go and their slots are used again
         let end = put.value + 100;
-        assert_eq!(store.shift_start(number, 1, end - 20_000).code, 0);
-        assert_eq!(store.commit(number).code, 0);
+        assert_eq!(calls::shift_start(&mut store, number, 1, end - 20_000).code, 0);
+        assert_eq!(calls::commit(&mut store, number).code, 0);
     });
     let (tapes, tape) = theirs(root, 4096)?;
     let theirs = nanoseconds(calls, || {
@@ -111,8 +111,8 @@ fn append(root: &Path) -> io::Result<()> {
 fn reader(root: &Path) -> io::Result<()> {
     let mut store = ours(4096);
     let ours = nanoseconds(20_000, || {
-        let number = store.reader().value;
-        assert_eq!(store.drop_transaction(number).code, 0);
+        let number = calls::reader(&mut store).value;
+        assert_eq!(calls::drop_transaction(&mut store, number).code, 0);
     });
     let (tapes, _tape) = theirs(root, 4096)?;
     let theirs = nanoseconds(20_000, || drop(black_box(tapes.reader())));

@@ -9,20 +9,24 @@ use std::{
 
 use beside::{Generator, Random};
 use oracle::{Call, Reply as Printed};
+use tapes::{
+    Owned,
+    calls::{self, NO_ENTRY, Reply},
+};
 
 use crate::{
     areas::{self, Field},
-    calls::{Asked, ask},
-    forged,
-    store::{NO_ENTRY, Reply, Store},
+    asked::{Asked, ask},
+    disk, forged,
 };
 
 const WAITING: u64 = 4;
 const MOST_READERS: u64 = 16;
 const UNUSABLE: u64 = 1;
 const BAD_LIST: u64 = 17;
+const LARGEST_BUFFER: usize = 9000;
 /// What stands in the buffer before a read.
-const FILL: u8 = 0xa5;
+static FILL: [u8; LARGEST_BUFFER] = [0xa5; LARGEST_BUFFER];
 
 #[derive(Clone, Copy)]
 enum Harm {
@@ -52,6 +56,7 @@ const HARMS: [(u64, Harm); 8] = [
 #[derive(Default)]
 pub struct Count {
     rounds: u64,
+    /// Those that changed a store which the next call was made on.
     damages: u64,
     /// By code.
     answers: [u64; 19],
@@ -70,29 +75,31 @@ impl fmt::Display for Count {
     }
 }
 
-/// With `trace`, each call is printed with its answer and a digest of all lent memory after it, for two archives to be compared.
+/// Rounds until so many damages were made. With `trace`, each call is printed with its answer and a digest of all lent memory after it,
+/// for two archives to be compared.
 ///
 /// # Panics
 ///
 /// At the first call that does what it must not.
-pub fn run(rounds: u64, seed: u64, trace: bool) -> Count {
-    let mut count = Count { rounds, ..Count::default() };
+pub fn run(damages: u64, seed: u64, trace: bool) -> Count {
+    let mut count = Count::default();
     let mut random = Random::new(seed);
-    for round in 1..=rounds {
+    while count.damages < damages {
+        count.rounds += 1;
         Round::new(Random::new(random.number()), trace)
             .run(&mut count)
-            .unwrap_or_else(|wrong| panic!("round {round}, {wrong}"));
+            .unwrap_or_else(|wrong| panic!("round {}, {wrong}", count.rounds));
     }
     count
 }
 
 /// A store with the lines that are made for it.
 struct Bench {
-    store: Store,
+    store: Owned,
     generator: Generator,
     /// As it was some calls ago, and as it was before it was damaged.
-    older: Store,
-    unharmed: Option<Store>,
+    older: Owned,
+    unharmed: Option<Owned>,
     /// A record was just put there, which a store should see.
     forged: bool,
 }
@@ -112,7 +119,7 @@ impl Round {
     fn new(mut random: Random, trace: bool) -> Self {
         let slots = *random.pick(&[8, 8, 8, 8, 1, 3, 64]);
         let benches = [random.number(), random.number()].map(|seed| {
-            let mut store = Store::zeros(slots);
+            let mut store = Owned::zeros(slots);
             // areas may be longer than they need be
             store.disk.resize(store.disk.len() + random.between(0, 1) as usize * 50, 0xd1);
             store.session.resize(store.session.len() + random.between(0, 1) as usize * 50, 0x5e);
@@ -130,8 +137,9 @@ impl Round {
             }
             // the first calls make something that can be damaged
             if call > 20 && self.random.percent(self.harms) {
+                let before = self.benches[which].store.clone();
                 self.harm(which);
-                count.damages += 1;
+                count.damages += u64::from(before != self.benches[which].store);
             }
             let code = self.call(which).map_err(|wrong| format!("call {call}: {wrong}"))?;
             count.answers[code as usize] += 1;
@@ -148,7 +156,7 @@ impl Round {
     fn call(&mut self, which: usize) -> Result<u64, String> {
         let (line, asked) = self.next(which);
         let slots = if line.is_some() { self.slots } else { self.edge(64) };
-        let mut out = vec![FILL; *self.random.pick(&[0, 1, 7, 256, 4095, 4096, 4096, 4096, 9000])];
+        let mut out = FILL[..*self.random.pick(&[0, 1, 7, 256, 4095, 4096, 4096, 4096, LARGEST_BUFFER])].to_vec();
 
         let Bench { store, generator, .. } = &mut self.benches[which];
         let before = store.clone();
@@ -241,7 +249,7 @@ impl Round {
             Harm::Forge => {
                 let epoch = self.edge(1000);
                 let (record, left) = (forged::record(&mut self.random, epoch), self.random.percent(50));
-                areas::put_metadata(&mut self.benches[which].store.disk, left, &record);
+                disk::put_metadata(&mut self.benches[which].store.disk, left, &record);
                 self.benches[which].forged = true;
             }
             harm => {
@@ -282,12 +290,12 @@ impl Round {
     }
 }
 
-fn area(store: &mut Store, of_disk: bool) -> &mut Vec<u8> {
+fn area(store: &mut Owned, of_disk: bool) -> &mut Vec<u8> {
     if of_disk { &mut store.disk } else { &mut store.session }
 }
 
 /// How many bytes of disk, session and buffer a served call may write: those from there on stay.
-fn writable(before: &Store, asked: &Asked, slots: u64, reply: Reply) -> Option<[usize; 3]> {
+fn writable(before: &Owned, asked: &Asked, slots: u64, reply: Reply) -> Option<[usize; 3]> {
     let disk = areas::disk_bytes(areas::slot_count(&before.disk));
     let session = areas::SESSION_BYTES;
     let read = |handle, count: u64| Some(areas::entry_size(&before.session, handle)?.checked_mul(count)? as usize);
@@ -307,14 +315,14 @@ fn writable(before: &Store, asked: &Asked, slots: u64, reply: Reply) -> Option<[
 }
 
 fn check(
-    before: &Store,
-    store: &Store,
+    before: &Owned,
+    store: &Owned,
     out: &[u8],
     asked: &Asked,
     slots: u64,
     reply: Reply,
 ) -> Result<(), &'static str> {
-    let untouched = |out: &[u8]| out.iter().all(|byte| *byte == FILL);
+    let untouched = |out: &[u8]| *out == FILL[..out.len()];
     let ensure = |what, holds: bool| if holds { Ok(()) } else { Err(what) };
     let Reply { code, value } = reply;
     ensure("no such code", code <= 18)?;
@@ -343,8 +351,8 @@ fn check(
     }
     // a formatted disk has no session, so a store has to tell
     let sound = match asked {
-        Asked::Line(Call::Format) => store.clone().store().code != UNUSABLE,
-        _ => store.len(0, 0).code != UNUSABLE,
+        Asked::Line(Call::Format) => calls::store(&mut store.clone()).code != UNUSABLE,
+        _ => calls::len(store, 0, 0).code != UNUSABLE,
     };
     ensure("left areas that break the rule", sound)
 }

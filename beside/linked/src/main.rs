@@ -6,13 +6,13 @@
 
 mod also;
 mod areas;
+mod asked;
 mod bench;
-mod calls;
 mod damage;
-mod ffi;
+#[path = "../../../rust/tests/all/disk.rs"]
+mod disk;
 mod forged;
 mod stack;
-mod store;
 
 use std::{
     io::{self, BufRead, BufWriter, Write},
@@ -21,12 +21,11 @@ use std::{
 };
 
 use oracle::{Call, LARGEST_READ, Reply};
-
-use store::Store;
+use tapes::{Owned, calls};
 
 const USAGE: &str = "usage:
   linked [--disk] [--also] < SCRIPT    a reply for each line; the disk after each; what the library's other calls say of it
-  linked --damage ROUNDS SEED [--trace]
+  linked --damage DAMAGES SEED [--trace]
                                        calls on damaged areas; what became of each
   linked --bench DIRECTORY             times of a few calls, and of the Rust's on files in that directory
   linked --stack                       the stack that each call takes";
@@ -35,13 +34,13 @@ const USAGE: &str = "usage:
 const SLOTS: u64 = 8;
 
 /// The reply to a line without its end, and the line's call if it is readable.
-fn answer(store: &mut Store, line: &[u8]) -> (Reply, Option<Call>) {
+fn answer(store: &mut Owned, line: &[u8]) -> (Reply, Option<Call>) {
     let call = match Call::parse(line, |handle| areas::entry_size(&store.session, handle)) {
         Err(kind) => return (Reply::Unreadable(kind), None),
         Ok(call) => call,
     };
     let mut bytes = vec![0; LARGEST_READ as usize];
-    let store::Reply { code, value } = calls::ask_line(store, &call, SLOTS, &mut bytes);
+    let calls::Reply { code, value } = asked::ask_line(store, &call, SLOTS, &mut bytes);
     let code = u8::try_from(code).expect("a code is at most 18");
     let answered = match call {
         Call::Read { handle, count, .. } if code == 0 => {
@@ -54,7 +53,7 @@ fn answer(store: &mut Store, line: &[u8]) -> (Reply, Option<Call>) {
 }
 
 fn speak(with_disk: bool, with_also: bool) -> io::Result<()> {
-    let mut store = Store::zeros(SLOTS);
+    let mut store = Owned::zeros(SLOTS);
     let mut input = io::stdin().lock();
     let mut output = BufWriter::new(io::stdout().lock());
     let mut line = Vec::new();
@@ -66,7 +65,7 @@ fn speak(with_disk: bool, with_also: bool) -> io::Result<()> {
         let (reply, call) = answer(&mut store, line.strip_suffix(b"\n").unwrap_or(&line));
         writeln!(output, "{count}\t{reply}")?;
         if with_disk {
-            write!(output, "{}", areas::disk_text(&store.disk))?;
+            write!(output, "{}", disk::text(&store.disk))?;
         }
         if let (Some(before), Some(call)) = (before, call)
             && let Err(said) = also::agree(&before, &store, &call, &reply)
@@ -81,10 +80,10 @@ fn speak(with_disk: bool, with_also: bool) -> io::Result<()> {
 fn main() -> io::Result<ExitCode> {
     let words: Vec<String> = std::env::args().skip(1).collect();
     let words: Vec<&str> = words.iter().map(String::as_str).collect();
-    if let ["--damage", rounds, seed, trace @ ..] = &words[..]
-        && let (Ok(rounds), Ok(seed), [] | ["--trace"]) = (rounds.parse(), seed.parse(), trace)
+    if let ["--damage", damages, seed, trace @ ..] = &words[..]
+        && let (Ok(damages), Ok(seed), [] | ["--trace"]) = (damages.parse(), seed.parse(), trace)
     {
-        println!("{}", damage::run(rounds, seed, !trace.is_empty()));
+        println!("{}", damage::run(damages, seed, !trace.is_empty()));
     } else if let ["--bench", directory] = words[..] {
         bench::run(Path::new(directory))?;
     } else if words == ["--stack"] {

@@ -3,7 +3,7 @@
 
 use std::{arch::asm, hint::black_box, thread};
 
-use crate::store::Store;
+use tapes::{Owned, Shape, calls};
 
 /// More than any call needs.
 const PAINTED: usize = 256 * 1024;
@@ -35,26 +35,27 @@ fn show(what: &str, call: impl FnOnce()) {
 }
 
 fn measure() {
-    let mut store = Store::zeros(8);
+    let mut store = Owned::zeros(8);
     let mut out = [0; 4096];
-    show("format", || assert_eq!(store.format(8).code, 0));
-    show("store", || assert_eq!(store.store().code, 0));
-    show("append", || assert_eq!(store.append().code, 0));
-    show("open, new", || assert_eq!(store.open(1, b"room", 1, 4096, 64, 0).code, 0));
-    show("append_entries", || assert_eq!(store.append_entries(1, 1, &[7; 5000]).code, 0));
-    show("shift_start", || assert_eq!(store.shift_start(1, 1, 1).code, 0));
-    show("commit, append", || assert_eq!(store.commit(1).code, 0));
-    show("store, again", || assert_eq!(store.store().code, 0));
-    assert_eq!(store.append().code, 0);
-    show("open, known", || assert_eq!(store.open(1, b"room", 1, 4096, 4096, 0).code, 0));
-    show("drop", || assert_eq!(store.drop_transaction(1).code, 0));
-    show("reader", || assert_eq!(store.reader().code, 0));
-    show("read_entries", || assert_eq!(store.read_entries(2, 1, 100, 4096, &mut out).code, 0));
-    show("read_entry", || assert_eq!(store.read_entry(2, 1, 100, &mut out).code, 0));
-    show("truncate", || assert_eq!(store.truncate().code, 0));
-    show("pop_entry", || assert_eq!(store.pop_entry(3, 1, &mut out).code, 0));
-    show("truncate_tape", || assert_eq!(store.truncate_tape(3, 1, 10).code, 0));
-    show("commit, truncate", || assert_eq!(store.commit(3).code, 0));
+    let small = Shape { cache: 64, ..Shape::default() };
+    show("format", || assert_eq!(calls::format(&mut store, 8).code, 0));
+    show("store", || assert_eq!(calls::store(&mut store).code, 0));
+    show("append", || assert_eq!(calls::append(&mut store).code, 0));
+    show("open, new", || assert_eq!(calls::open(&mut store, 1, b"room", small).code, 0));
+    show("append_entries", || assert_eq!(calls::append_entries(&mut store, 1, 1, &[7; 5000]).code, 0));
+    show("shift_start", || assert_eq!(calls::shift_start(&mut store, 1, 1, 1).code, 0));
+    show("commit, append", || assert_eq!(calls::commit(&mut store, 1).code, 0));
+    show("store, again", || assert_eq!(calls::store(&mut store).code, 0));
+    assert_eq!(calls::append(&mut store).code, 0);
+    show("open, known", || assert_eq!(calls::open(&mut store, 1, b"room", Shape::default()).code, 0));
+    show("drop", || assert_eq!(calls::drop_transaction(&mut store, 1).code, 0));
+    show("reader", || assert_eq!(calls::reader(&mut store).code, 0));
+    show("read_entries", || assert_eq!(calls::read_entries(&store, 2, 1, 100, 4096, &mut out).code, 0));
+    show("read_entry", || assert_eq!(calls::read_entry(&store, 2, 1, 100, &mut out).code, 0));
+    show("truncate", || assert_eq!(calls::truncate(&mut store).code, 0));
+    show("pop_entry", || assert_eq!(calls::pop_entry(&mut store, 3, 1, &mut out).code, 0));
+    show("truncate_tape", || assert_eq!(calls::truncate_tape(&mut store, 3, 1, 10).code, 0));
+    show("commit, truncate", || assert_eq!(calls::commit(&mut store, 3).code, 0));
     black_box(store);
 }
 

@@ -1,7 +1,7 @@
 //! Document 01's worked example and its nine checked examples, through the API; where they are about the areas' bytes, those are
 //! looked at.
 
-use crate::layout::{self, hex};
+use crate::disk::{self, directories, hex, left, word};
 use std::mem;
 use tapes::{Error, Owned, Shape, Store, Tape};
 
@@ -19,8 +19,25 @@ fn ten_bytes() -> Result<(Store, Tape), Error> {
     Ok((store, tape))
 }
 
+/// Of `a`, the one tape.
+fn files(disk: &[u8]) -> Vec<(u64, &[u8])> {
+    assert_eq!(directories(disk), [(&b"a"[..], 1)]);
+    disk::files(disk, 1)
+}
+
 fn file_numbers(store: &Store) -> Vec<u64> {
-    layout::files(&store.copy_disk(), "a").iter().map(|(number, _)| *number).collect()
+    files(&store.copy_disk()).iter().map(|(number, _)| *number).collect()
+}
+
+/// Its cache: the first index, and the bytes in the tape's order. It stands at the first of the session's eight places.
+fn cache(session: &[u8]) -> (u64, Vec<u8>) {
+    const TAPE_PLACES: usize = 48;
+    const RING: usize = 4192;
+    const RINGS: usize = 5960;
+    assert_eq!(disk::name(session, TAPE_PLACES, 0), b"a");
+    let [capacity, start, length, first] = [0, 8, 16, 24].map(|field| word(session, RING + field));
+    let byte = |index| session[RINGS + ((start + index) % capacity) as usize];
+    (first, (0..length).map(byte).collect())
 }
 
 #[test]
@@ -45,8 +62,8 @@ fn example_1_an_empty_list() -> Result<(), Error> {
     let store = Store::new(8)?;
     store.append()?.commit()?;
     let disk = store.copy_disk();
-    assert_eq!(layout::left(&disk).len(), 52);
-    assert_eq!(layout::left(&disk)[48..], [0; 4]);
+    assert_eq!(left(&disk).len(), 52);
+    assert_eq!(left(&disk)[48..], [0; 4]);
     Ok(())
 }
 
@@ -59,10 +76,10 @@ fn examples_2_and_3_a_tape_that_begins_at_6() -> Result<(), Error> {
     append.commit()?;
 
     let disk = store.copy_disk();
-    let record = layout::left(&disk);
+    let record = left(&disk);
     assert_eq!(record.len(), 73);
     assert_eq!(hex(&record[48..]), "0100000001000000610b000000000000000600000000000000");
-    assert_eq!(layout::files(&disk, "a"), [(1, &b"\0\0he"[..]), (2, b"llo")]);
+    assert_eq!(files(&disk), [(1, &b"\0\0he"[..]), (2, b"llo")]);
     assert_eq!(store.reader()?.read_entries(tape, 6, 5)?, b"hello");
     Ok(())
 }
@@ -84,8 +101,8 @@ fn with_staged(bytes: &str) -> Result<Owned, Error> {
 
 #[test]
 fn examples_4_and_5_the_cache() -> Result<(), Error> {
-    assert_eq!(layout::cache(&with_staged("")?.session, "a"), (2, b"cdef".to_vec()));
-    assert_eq!(layout::cache(&with_staged("g")?.session, "a"), (3, b"defg".to_vec()));
+    assert_eq!(cache(&with_staged("")?.session), (2, b"cdef".to_vec()));
+    assert_eq!(cache(&with_staged("g")?.session), (3, b"defg".to_vec()));
 
     let store = Store::new(8)?;
     let mut append = store.append()?;
@@ -96,7 +113,7 @@ fn examples_4_and_5_the_cache() -> Result<(), Error> {
     append.append_entries(tape, "g")?;
     drop(append);
     assert_eq!(store.reader()?.read_entries(tape, 2, 2)?, b"cd");
-    assert_eq!(layout::cache(&store.into_areas().session, "a"), (3, b"def".to_vec()));
+    assert_eq!(cache(&store.into_areas().session), (3, b"def".to_vec()));
     Ok(())
 }
 

@@ -1,9 +1,9 @@
 //! The crate's API, held against document 01's examples, recorded answers, a model of the promise, and the C functions.
 
 mod declared;
+mod disk;
 mod examples;
 mod generated;
-mod layout;
 mod lines;
 mod model;
 mod random;

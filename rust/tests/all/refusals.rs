@@ -1,6 +1,6 @@
 //! Every refusal number, reached through the API.
 
-use crate::layout;
+use crate::disk::put_metadata;
 use tapes::{disk_bytes, format, session_bytes, Append, Error, Owned, Reader, Refused, Shape, Store, Tape};
 
 /// Hashes of the records below: Python's `hashlib.blake2b(b"epoch" + epoch + b"tapes" + list, digest_size=32)`, with the epoch
@@ -25,7 +25,7 @@ fn with_record(record: &str) -> Result<Owned, Error> {
     let store = Store::new(8)?;
     store.append()?.open("a", SMALL)?;
     let mut areas = store.into_areas();
-    layout::put_left(&mut areas.disk, &unhex(record));
+    put_metadata(&mut areas.disk, true, &unhex(record));
     Ok(areas)
 }
 
@@ -201,7 +201,7 @@ fn number_16_of_a_read_longer_than_a_disk() -> Result<(), Error> {
     append.append_entries(tape, [b'.'; 20])?;
     append.commit()?;
     let mut areas = store.into_areas();
-    layout::put_left(&mut areas.disk, &unhex(LONGEST_TAPE));
+    put_metadata(&mut areas.disk, true, &unhex(LONGEST_TAPE));
 
     let store = begun(areas)?;
     let mut append = store.append()?;

@@ -4,7 +4,7 @@
 //! line finds no value to make its call with, and is answered here, with 2 or, before a session, 1. All others reach the store.
 
 use crate::{
-    layout::{disk_text, hex},
+    disk::{self, hex},
     lines::Call,
 };
 use std::collections::BTreeMap;
@@ -46,7 +46,7 @@ impl Replies {
         };
         self.text += &format!("{}\t{reply}\n", self.lines);
         if self.with_disk {
-            self.text += &disk_text(&disk());
+            self.text += &disk::text(&disk());
         }
     }
 
