@@ -1,7 +1,7 @@
 //! Metadata records that no call of the store writes: the hash is right, the list is any.
 
 use beside::Random;
-use blake2::{Blake2b, Digest};
+use oracle::{Record, encode_list};
 
 /// Sorted, and more than a list may have.
 const NAMES: [&str; 10] = ["-", "9", "_", "a", "aa", "b", "metadata", "room-1", "votes", "z_"];
@@ -26,32 +26,11 @@ pub fn record(random: &mut Random, epoch: u64) -> Vec<u8> {
             _ => (),
         }
     }
-    let mut list = list_of(&tapes);
+    let mut list = encode_list(&tapes);
     match random.between(0, 19) {
         0 => list.push(0),
         1 => drop(list.pop()),
         _ => (),
     }
-    around(epoch, &list)
-}
-
-fn list_of(tapes: &[(&str, u64, u64)]) -> Vec<u8> {
-    let mut bytes = (tapes.len() as u32).to_le_bytes().to_vec();
-    for (name, len, start) in tapes {
-        bytes.extend((name.len() as u32).to_le_bytes());
-        bytes.extend(name.bytes());
-        bytes.extend(len.to_le_bytes());
-        bytes.extend(start.to_le_bytes());
-    }
-    bytes
-}
-
-fn around(epoch: u64, list: &[u8]) -> Vec<u8> {
-    let mut hasher = Blake2b::new();
-    hasher.update("epoch");
-    hasher.update(epoch.to_le_bytes());
-    hasher.update("tapes");
-    hasher.update(list);
-    let length = (list.len() as u32).to_le_bytes();
-    [&1u32.to_le_bytes()[..], &hasher.finalize(), &epoch.to_le_bytes(), &length, list].concat()
+    Record { epoch, list }.written()
 }

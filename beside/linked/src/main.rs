@@ -7,7 +7,6 @@
 mod also;
 mod areas;
 mod asked;
-mod bench;
 mod damage;
 #[path = "../../../rust/tests/all/disk.rs"]
 mod disk;
@@ -16,7 +15,6 @@ mod stack;
 
 use std::{
     io::{self, BufRead, BufWriter, Write},
-    path::Path,
     process::ExitCode,
 };
 
@@ -27,7 +25,6 @@ const USAGE: &str = "usage:
   linked [--disk] [--also] < SCRIPT    a reply for each line; the disk after each; what the library's other calls say of it
   linked --damage DAMAGES SEED [--trace]
                                        calls on damaged areas; what became of each
-  linked --bench DIRECTORY             times of a few calls, and of the Rust's on files in that directory
   linked --stack                       the stack that each call takes";
 
 /// Of the driver's disk.
@@ -84,8 +81,6 @@ fn main() -> io::Result<ExitCode> {
         && let (Ok(damages), Ok(seed), [] | ["--trace"]) = (damages.parse(), seed.parse(), trace)
     {
         println!("{}", damage::run(damages, seed, !trace.is_empty()));
-    } else if let ["--bench", directory] = words[..] {
-        bench::run(Path::new(directory))?;
     } else if words == ["--stack"] {
         stack::run();
     } else if words.iter().all(|word| ["--disk", "--also"].contains(word)) {

@@ -14,4 +14,4 @@ mod tape;
 pub use disk::{Scratch, hex};
 pub use line::{Call, LARGEST_READ, LONGEST_LINE, Unreadable};
 pub use oracle::{Oracle, Reply, answers};
-pub use record::{Listed, Record, choose, decode_list};
+pub use record::{Listed, Record, choose, decode_list, encode_list};

@@ -1,4 +1,4 @@
-//! The driver's lines: fields parted by tabs.
+//! The driver's lines: fields parted by tabs. `rust/tests` reads its scripts with this file too, in its own, older edition.
 
 /// A longer line, without its end, is unreadable.
 pub const LONGEST_LINE: usize = 8500;
@@ -54,13 +54,14 @@ impl Call {
             return Err(Unreadable::FieldCount);
         }
 
-        let call = Self::from_fields(&fields)?;
-        if let Self::Read { handle, count, .. } = call
-            && count.saturating_mul(entry_size(handle).unwrap_or(1)) > LARGEST_READ
-        {
-            return Err(Unreadable::LargeRead);
+        match Self::from_fields(&fields)? {
+            Self::Read { handle, count, .. }
+                if count.saturating_mul(entry_size(handle).unwrap_or(1)) > LARGEST_READ =>
+            {
+                Err(Unreadable::LargeRead)
+            }
+            call => Ok(call),
         }
-        Ok(call)
     }
 
     /// Of a known call word with its number of fields.
@@ -109,10 +110,11 @@ fn hex(field: &[u8]) -> Result<Vec<u8>, Unreadable> {
         b'a'..=b'f' => Ok(byte - b'a' + 10),
         _ => Err(Unreadable::Hex),
     };
-    if !field.len().is_multiple_of(2) {
-        return Err(Unreadable::Hex);
-    }
-    field.chunks_exact(2).map(|pair| Ok(16 * digit(pair[0])? + digit(pair[1])?)).collect()
+    let pair = |pair: &[u8]| match *pair {
+        [high, low] => Ok(16 * digit(high)? + digit(low)?),
+        _ => Err(Unreadable::Hex),
+    };
+    field.chunks(2).map(pair).collect()
 }
 
 #[cfg(test)]

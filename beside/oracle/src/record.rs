@@ -1,5 +1,5 @@
 //! The metadata record as the Rust wrote it: read here for the tape list and the epoch, which the Rust's interface doesn't show, and
-//! for 17, which is stricter than the Rust.
+//! for 17, which is stricter than the Rust. And records that no call writes, for tests: any list, with the right hash around it.
 
 use blake2::{Blake2b, Digest};
 
@@ -29,14 +29,36 @@ impl Record {
         let length = u32::from_le_bytes(take(&mut bytes)?) as usize;
         let list = bytes.get(..length)?;
 
+        let record = Self { epoch: u64::from_le_bytes(epoch), list: list.to_vec() };
+        (record.hash() == hash).then_some(record)
+    }
+
+    fn hash(&self) -> [u8; 32] {
         let mut hasher = Blake2b::new();
         hasher.update("epoch");
-        hasher.update(epoch);
+        hasher.update(self.epoch.to_le_bytes());
         hasher.update("tapes");
-        hasher.update(list);
-
-        (hasher.finalize() == hash).then(|| Self { epoch: u64::from_le_bytes(epoch), list: list.to_vec() })
+        hasher.update(&self.list);
+        hasher.finalize()
     }
+
+    /// As it would stand in a file.
+    pub fn written(&self) -> Vec<u8> {
+        let length = (self.list.len() as u32).to_le_bytes();
+        [&1u32.to_le_bytes()[..], &self.hash(), &self.epoch.to_le_bytes(), &length, &self.list].concat()
+    }
+}
+
+/// The bytes of a list, of names, lengths and starts as given: nothing is sorted or checked.
+pub fn encode_list(tapes: &[(&str, u64, u64)]) -> Vec<u8> {
+    let mut bytes = (tapes.len() as u32).to_le_bytes().to_vec();
+    for (name, len, start) in tapes {
+        bytes.extend((name.len() as u32).to_le_bytes());
+        bytes.extend(name.bytes());
+        bytes.extend(len.to_le_bytes());
+        bytes.extend(start.to_le_bytes());
+    }
+    bytes
 }
 
 /// Left if its epoch is larger, else right.

@@ -12,7 +12,7 @@ use std::{
 };
 
 use common::*;
-use oracle::{Scratch, decode_list};
+use oracle::{Scratch, decode_list, encode_list};
 use tapes::*;
 
 /// A1.
@@ -89,12 +89,12 @@ fn a_dropped_creation_keeps_its_handle() {
 fn the_rust_takes_more_lists() {
     let nine = ["a", "b", "c", "d", "e", "f", "g", "h", "i"].map(|name| (name, 0, 0));
     let lists = [
-        list(&[("b", 0, 0), ("a", 0, 0)]),
-        list(&[("a", 0, 0), ("a", 1, 0)]),
-        list(&[("A", 0, 0)]),
-        list(&[("", 0, 0)]),
-        list(&[("a", 1, 2)]),
-        list(&nine),
+        encode_list(&[("b", 0, 0), ("a", 0, 0)]),
+        encode_list(&[("a", 0, 0), ("a", 1, 0)]),
+        encode_list(&[("A", 0, 0)]),
+        encode_list(&[("", 0, 0)]),
+        encode_list(&[("a", 1, 2)]),
+        encode_list(&nine),
     ];
     for bytes in lists {
         let place = Scratch::new();
@@ -107,7 +107,7 @@ fn the_rust_takes_more_lists() {
 /// Both refuse these; a list of no bytes with a right hash isn't the empty list.
 #[test]
 fn lists_that_do_not_decode() {
-    let good = list(&[("a", 3, 1)]);
+    let good = encode_list(&[("a", 3, 1)]);
     for bytes in [good[..good.len() - 1].to_vec(), [good.clone(), vec![0]].concat(), Vec::new()] {
         let place = Scratch::new();
         write_left(place.path(), &record(1, &bytes));
@@ -170,9 +170,9 @@ fn a_cache_of_no_bytes_panics() {
 #[test]
 fn the_epoch_wraps() {
     let place = Scratch::new();
-    write_left(place.path(), &record(u64::MAX, &list(&[])));
+    write_left(place.path(), &record(u64::MAX, &encode_list(&[])));
     let store = Tapes::open(place.path()).unwrap();
     store.append().commit(Persistence::Buffer).unwrap();
     let right = fs::read(place.path().join("tapes/metadata/right")).unwrap();
-    assert_eq!(right, record(0, &list(&[])));
+    assert_eq!(right, record(0, &encode_list(&[])));
 }

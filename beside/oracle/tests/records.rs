@@ -5,8 +5,8 @@ mod common;
 
 use std::fs;
 
-use common::{Tape, list, options, record};
-use oracle::{Listed, Scratch, choose, decode_list};
+use common::{Tape, options, record};
+use oracle::{Listed, Scratch, choose, decode_list, encode_list};
 use tapes::*;
 
 fn hex(bytes: &[u8]) -> String {
@@ -52,10 +52,10 @@ fn one_tape() {
 
 #[test]
 fn the_choice_between_left_and_right() {
-    let (old, new) = (record(4, &list(&[("a", 3, 1)])), record(5, &list(&[])));
+    let (old, new) = (record(4, &encode_list(&[("a", 3, 1)])), record(5, &encode_list(&[])));
     assert_eq!(choose(&old, &new).epoch, 5);
     assert_eq!(choose(&new, &old).epoch, 5);
-    let same = record(4, &list(&[("b", 9, 9)]));
+    let same = record(4, &encode_list(&[("b", 9, 9)]));
     assert_eq!(decode_list(&choose(&old, &same).list).unwrap()[0].name, "b");
 
     let mut wrong = new.clone();
@@ -71,7 +71,7 @@ fn the_choice_between_left_and_right() {
 /// Whether left or right is overwritten tells which one the Rust chose, and the new record what it read there.
 #[test]
 fn the_rust_chooses_alike() {
-    let named = list(&[("a", 3, 1), ("b", 7, 7)]);
+    let named = encode_list(&[("a", 3, 1), ("b", 7, 7)]);
     let mut wrong_hash = record(9, &named);
     wrong_hash[20] ^= 0x80;
     let mut other_version = record(3, &named);
@@ -79,9 +79,9 @@ fn the_rust_chooses_alike() {
     let files = [
         Vec::new(),
         record(0, &named),
-        record(1, &list(&[])),
+        record(1, &encode_list(&[])),
         record(5, &named),
-        [record(5, &list(&[])), vec![0xee; 70]].concat(),
+        [record(5, &encode_list(&[])), vec![0xee; 70]].concat(),
         record(8, &named)[..72].to_vec(),
         wrong_hash,
         other_version,

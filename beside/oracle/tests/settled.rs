@@ -5,13 +5,13 @@ mod common;
 use std::fs;
 
 use common::*;
-use oracle::{Scratch, choose, decode_list};
+use oracle::{Scratch, choose, decode_list, encode_list};
 use tapes::*;
 
 /// A listed tape named `metadata` decodes, and can't be opened (7).
 #[test]
 fn a_tape_named_metadata_is_listed_but_never_opened() {
-    let bytes = list(&[("metadata", 0, 0)]);
+    let bytes = encode_list(&[("metadata", 0, 0)]);
     assert!(decode_list(&bytes).is_some());
     let place = Scratch::new();
     write_left(place.path(), &record(1, &bytes));
@@ -25,7 +25,7 @@ fn a_tape_named_metadata_is_listed_but_never_opened() {
 fn nothing_is_removed_at_the_last_epoch() {
     for (epoch, left_over) in [(u64::MAX, vec![0, 1, 2]), (u64::MAX - 1, vec![2])] {
         let place = Scratch::new();
-        write_left(place.path(), &record(epoch, &list(&[("a", 10, 8)])));
+        write_left(place.path(), &record(epoch, &encode_list(&[("a", 10, 8)])));
         fs::create_dir_all(place.path().join("tapes/a")).unwrap();
         for number in 0..3 {
             fs::write(place.path().join(format!("tapes/a/{number}")), b"abcd").unwrap();
@@ -40,7 +40,7 @@ fn nothing_is_removed_at_the_last_epoch() {
 #[test]
 fn the_other_record_does_not_step_in() {
     let place = Scratch::new();
-    let (bad, good) = (record(2, b"\x01\0\0\0"), record(1, &list(&[])));
+    let (bad, good) = (record(2, b"\x01\0\0\0"), record(1, &encode_list(&[])));
     write_left(place.path(), &bad);
     fs::write(place.path().join("tapes/metadata/right"), &good).unwrap();
     assert!(Tapes::open(place.path()).is_err());
@@ -51,7 +51,7 @@ fn the_other_record_does_not_step_in() {
 #[test]
 fn a_listed_tape_without_directory() {
     let place = Scratch::new();
-    write_left(place.path(), &record(1, &list(&[("a", 0, 0)])));
+    write_left(place.path(), &record(1, &encode_list(&[("a", 0, 0)])));
     let store = Tapes::open(place.path()).unwrap();
     let refused = store.append().open_blob_tape::<Tape>("a", options(place.path(), 4, 8, 0));
     assert_eq!(refused.err().unwrap().to_string(), "tape was in metadata but files was not found.");

@@ -4,7 +4,8 @@ mod declared;
 mod disk;
 mod examples;
 mod generated;
-mod lines;
+#[path = "../../../beside/oracle/src/line.rs"]
+mod line;
 mod model;
 mod random;
 mod refusals;

@@ -5,7 +5,7 @@
 
 use crate::{
     disk::{self, hex},
-    lines::Call,
+    line::Call,
 };
 use std::collections::BTreeMap;
 use tapes::{format, Append, Areas, Error, Owned, Reader, Refused, Shape, Store, Tape, Truncate, View};
@@ -90,9 +90,9 @@ fn before_a_session<'a>(
 ) -> Option<Store> {
     for line in lines {
         let answer = match Call::parse(line, |_| None) {
-            None => None,
-            Some(Call::Format) => Some(format(&mut areas, SLOTS).map(done)),
-            Some(Call::Store) => match Store::begin(areas) {
+            Err(_) => None,
+            Ok(Call::Format) => Some(format(&mut areas, SLOTS).map(done)),
+            Ok(Call::Store) => match Store::begin(areas) {
                 Ok(store) => {
                     replies.say(Some(Ok(plain(store.epoch()))), || store.copy_disk());
                     return Some(store);
@@ -102,7 +102,7 @@ fn before_a_session<'a>(
                     Some(Err(error))
                 }
             },
-            Some(_) => Some(replies.not_asked(Error::Unusable)),
+            Ok(_) => Some(replies.not_asked(Error::Unusable)),
         };
         // before the first format, the disk is zeros and has nothing to show
         replies.say(answer, || areas.areas().0.to_vec());
@@ -121,10 +121,10 @@ fn session<'a>(store: &Store, lines: &mut impl Iterator<Item = &'a [u8]>, replie
     let mut session = Session { store, open: BTreeMap::new(), tapes: BTreeMap::new() };
     for line in lines {
         let answer = match Call::parse(line, |handle| session.tape(handle).map(Tape::entry_size)) {
-            None => None,
-            Some(Call::Format) => return End::Format,
-            Some(Call::Store) => return End::Store,
-            Some(call) => Some(session.ask(call).unwrap_or_else(|| replies.not_asked(Error::Unknown))),
+            Err(_) => None,
+            Ok(Call::Format) => return End::Format,
+            Ok(Call::Store) => return End::Store,
+            Ok(call) => Some(session.ask(call).unwrap_or_else(|| replies.not_asked(Error::Unknown))),
         };
         replies.say(answer, || store.copy_disk());
     }

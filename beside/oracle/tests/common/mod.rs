@@ -3,7 +3,7 @@
 
 use std::{fs, io, path::Path};
 
-use blake2::{Blake2b, Digest};
+use oracle::Record;
 use tapes::*;
 
 pub type Tape = CachedBlobTape<RollingBlobTape>;
@@ -47,25 +47,7 @@ pub fn read(from: &impl TapesRead, tape: &Tape, offset: u64, length: usize) -> i
 
 /// A record with a right hash around any list bytes.
 pub fn record(epoch: u64, list: &[u8]) -> Vec<u8> {
-    let mut hasher = Blake2b::new();
-    hasher.update("epoch");
-    hasher.update(epoch.to_le_bytes());
-    hasher.update("tapes");
-    hasher.update(list);
-    let length = (list.len() as u32).to_le_bytes();
-    [&1u32.to_le_bytes()[..], &hasher.finalize(), &epoch.to_le_bytes(), &length, list].concat()
-}
-
-/// List bytes as given: nothing is sorted or checked.
-pub fn list(tapes: &[(&str, u64, u64)]) -> Vec<u8> {
-    let mut bytes = (tapes.len() as u32).to_le_bytes().to_vec();
-    for (name, len, start) in tapes {
-        bytes.extend((name.len() as u32).to_le_bytes());
-        bytes.extend(name.bytes());
-        bytes.extend(len.to_le_bytes());
-        bytes.extend(start.to_le_bytes());
-    }
-    bytes
+    Record { epoch, list: list.to_vec() }.written()
 }
 
 /// Writes left before the store is opened.
