@@ -1,5 +1,5 @@
--- What is alike in the readers' walks. `read_u32`, `read_u64` and `read_bytes` differ in what they find and in the function that they call, and so do
--- `take_u32`, `take_u64` and `take_vec`: each walk is made once, over a `Found`, in `Apart.antt` and in `Placed.antt`.
+-- What is alike in the readers' walks. `read_u32`, `read_u64`, `read_array32` and `read_bytes` differ in what they find and in the function that they call, and
+-- so do `take_u32`, `take_u64`, `take_array32` and `take_vec`: each walk is made once, over a `Found`, in `Apart.antt` and in `Placed.antt`.
 --     Found            a type of results, with its MIR type, and which result stands at a place of a list
 --     from, read, take     the signatures: over a slice and a place, over a reader, over a slice and a cursor
 --     from-says, read-says, take-says      their contracts: each answers what is found
@@ -25,7 +25,7 @@ use denote.Ref.{now}
 use denote.Signature.{Slot, plain, namedLft}
 use denote.Triple.Clauses.{Ended, Clauses}
 use denote.Enum.Laws as EL
-use Rattle.borsh.specs.Taking.{takeNumber, takeVec}
+use Rattle.borsh.specs.Taking.{takeNumber, takeArray, takeVec}
 use Rattle.borsh.proofs.Cursor as cursor
 use Rattle.borsh.proofs.TakenBytes as bytes
 use Rattle.borsh.proofs.TakenBytes.Laws as bytes-laws
@@ -46,6 +46,15 @@ a-number k = record {
   ty = number-laws.mir;
   typed = λ 𝓤 H A W r u is. EL.lawful number.the-type number-laws.the-laws 𝓤 H A W tt .typed r _ is .0;
   finds = takeNumber k;
+}
+
+-- an array of n bytes
+abbrev pub an-array : ℕ → Found
+an-array n = record {
+  row = bytes.the-row;
+  ty = bytes-laws.mir;
+  typed = λ 𝓤 H A W r u is. EL.lawful bytes.the-type bytes-laws.the-laws 𝓤 H A W tt .typed r _ is .0;
+  finds = takeArray n;
 }
 
 -- a byte vector

@@ -7,6 +7,7 @@
 // which make a reader each. A writer's caller has made room. Proved, and nothing is assumed.
 mod reader;
 
+use reader::read_array32;
 use reader::read_bytes;
 use reader::read_u32;
 use reader::read_u64;
@@ -74,10 +75,9 @@ fn u64_from(s: &[u8], at: usize) -> TakenNumber
 }
 
 // A fixed array of n bytes.
-pub fn take_array(s: &[u8], c: Cursor, n: usize) -> TakenBytes
-    ensures { λ r. ⌜ r ≡ takeArray n (now (s .entry)) (c .at) ⌝ }
+fn array_from(s: &[u8], at: usize, n: usize) -> TakenBytes
+    ensures { λ r. ⌜ r ≡ takeArray n (now (s .entry)) at ⌝ }
 {
-    let at = c.at;
     if has(s, at, n) {
         TakenBytes::Bytes {
             start: at,
@@ -89,12 +89,19 @@ pub fn take_array(s: &[u8], c: Cursor, n: usize) -> TakenBytes
     }
 }
 
+// As long as a hash is.
+fn array32_from(s: &[u8], at: usize) -> TakenBytes
+    ensures { λ r. ⌜ r ≡ takeArray 32 (now (s .entry)) at ⌝ }
+{
+    array_from(s, at, 32)
+}
+
 // A byte vector or a string: its length, and its bytes.
 fn vec_from(s: &[u8], at: usize) -> TakenBytes
     ensures { λ r. ⌜ r ≡ takeVec (now (s .entry)) at ⌝ }
 {
     if has(s, at, 4) {
-        take_array(s, Cursor { at: at + 4 }, octets::u32_at(s, at) as usize)
+        array_from(s, at + 4, octets::u32_at(s, at) as usize)
     } else {
         TakenBytes::ShortBytes
     }
@@ -112,6 +119,12 @@ pub fn take_u64(s: &[u8], c: Cursor) -> TakenNumber
     ensures { λ r. ⌜ r ≡ takeNumber 8 (now (s .entry)) (c .at) ⌝ }
 {
     read_u64(reader_at(s, c.at))
+}
+
+pub fn take_array32(s: &[u8], c: Cursor) -> TakenBytes
+    ensures { λ r. ⌜ r ≡ takeArray 32 (now (s .entry)) (c .at) ⌝ }
+{
+    read_array32(reader_at(s, c.at))
 }
 
 pub fn take_vec(s: &[u8], c: Cursor) -> TakenBytes

@@ -4,11 +4,12 @@
 // reader apart and calls the covered function on the slice and the place.
 use crate::TakenBytes;
 use crate::TakenNumber;
+use crate::array32_from;
 use crate::u32_from;
 use crate::u64_from;
 use crate::vec_from;
 ghost use mathlib.Core.Path.{_≡_};
-ghost use Rattle.borsh.specs.Taking.{takeNumber, takeVec};
+ghost use Rattle.borsh.specs.Taking.{takeNumber, takeArray, takeVec};
 
 pub struct Reader<'a> {
     pub src: &'a [u8],
@@ -32,6 +33,13 @@ pub fn read_u64<'a>(r: Reader<'a>) -> TakenNumber
     ensures { λ t. ⌜ t ≡ takeNumber 8 (now (r .entry .src)) (r .entry .at) ⌝ }
 {
     u64_from(r.src, r.at)
+}
+
+// A fixed array of 32 bytes.
+pub fn read_array32<'a>(r: Reader<'a>) -> TakenBytes
+    ensures { λ t. ⌜ t ≡ takeArray 32 (now (r .entry .src)) (r .entry .at) ⌝ }
+{
+    array32_from(r.src, r.at)
 }
 
 // A byte vector or a string.

@@ -10,13 +10,6 @@ pub enum Parsed {
     Unreadable,
 }
 
-// A byte as a wider number. As a call it needs no proof that the byte fits.
-fn wide(x: u8) -> u64
-    ensures { λ r. ⌜ (r ≡ x) × (r < 256) ⌝ }
-{
-    x as u64
-}
-
 // The number that s says. A number that would pass 2^64-1 is found before it is formed.
 pub fn parse_number(s: &[u8]) -> Parsed
     ensures { λ r. ⌜ r ≡ numberOf (now (s .entry)) ⌝ }
@@ -34,7 +27,7 @@ pub fn parse_number(s: &[u8]) -> Parsed
         if b'9' < b {
             return Parsed::Unreadable;
         }
-        let d = wide(b - b'0');
+        let d = octets::wide(b - b'0');
         if (18446744073709551615 - d) / 10 < n {
             return Parsed::Unreadable;
         }

@@ -30,7 +30,7 @@ fn record_part<'a>(s: &'a [u8], r: Reading) -> &'a [u8]
 {
     match r {
         Reading::Whole { epoch: _, list_len } => {
-            let end = 48 + list_len;
+            let end = Reading::HEAD_BYTES + list_len;
             &s[..end]
         }
         Reading::Empty => &s[..0],
@@ -63,10 +63,10 @@ pub fn next_side(left: &[u8], right: &[u8]) -> Side
 pub fn epoch_of(record: &[u8]) -> u64
     ensures { λ r. ⌜ r ≡ chosenEpoch (now («record» .entry)) ⌝ }
 {
-    if record.len() < 48 {
+    if record.len() < Reading::HEAD_BYTES {
         return 0;
     }
-    octets::u64_at(record, 36)
+    octets::u64_at(record, Reading::EPOCH)
 }
 
 // The list of a record that `pick` handed on; the empty one where nothing counts. Its hash is not
@@ -74,12 +74,12 @@ pub fn epoch_of(record: &[u8]) -> u64
 pub fn list_of(record: &[u8]) -> Decoded
     ensures { λ r. ⌜ r ≡ decodedOf (chosenList (now («record» .entry))) ⌝ }
 {
-    if record.len() < 48 {
+    if record.len() < Reading::HEAD_BYTES {
         let list = TapeList::empty();
         return Decoded {
             readable: true,
             list: list,
         };
     }
-    decode_list(&record[48..])
+    decode_list(&record[Reading::HEAD_BYTES..])
 }

@@ -130,7 +130,7 @@ fn tape_from(s: &[u8], place: usize, end: usize, len: u64, start: u64) -> TapeMe
     requires { ⌜ (Part place end (length (now s))) × (end ≤ place + 24) ⌝ }
     ensures { λ r. ⌜ r ≡ stored (tapeAt (now (s .entry)) place (end - place) len start) ⌝ }
 {
-    let mut name = [0u8; 24];
+    let mut name = [0u8; TapeMetadata::MOST_LETTERS];
     octets::copy_in(&mut name, 0, &s[place..end]);
     TapeMetadata {
         letters: end - place,
@@ -145,7 +145,7 @@ fn decode_tapes(s: &[u8], count: usize, first: usize) -> Decoded
     requires { ⌜ count ≤ 8 ⌝ }
     ensures { λ r. ⌜ r ≡ decodedOf (decodeFrom count [] (now (s .entry)) first) ⌝ }
 {
-    let mut tapes = [TapeMetadata::blank(); 8];
+    let mut tapes = [TapeMetadata::blank(); TapeList::MOST_NAMES];
     let mut at = first;
     let mut before = 0;
     let mut before_end = 0;

@@ -28,7 +28,7 @@ impl TapeMetadata {
     {
         TapeMetadata {
             letters: 0,
-            name: [0; 24],
+            name: [0; TapeMetadata::MOST_LETTERS],
             len: 0,
             start: 0,
         }
@@ -45,7 +45,7 @@ impl TapeList {
     pub fn empty() -> Self
         ensures { λ r. ⌜ r ≡ listOf [] ⌝ }
     {
-        let tapes = [TapeMetadata::blank(); 8];
+        let tapes = [TapeMetadata::blank(); TapeList::MOST_NAMES];
         TapeList {
             count: 0,
             tapes: tapes,

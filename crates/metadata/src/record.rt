@@ -12,7 +12,7 @@ use borsh::put_array;
 use borsh::put_u32;
 use borsh::put_u64;
 use borsh::put_vec;
-use borsh::take_array;
+use borsh::take_array32;
 use borsh::take_u32;
 use borsh::take_u64;
 use borsh::take_vec;
@@ -30,6 +30,14 @@ pub enum Reading {
     Whole { epoch: u64, list_len: usize },
     // Nothing that counts: epoch 0 and the empty list.
     Empty,
+}
+
+impl Reading {
+    // A record's bytes in front of its list's: version, hash, epoch and the list's length.
+    pub const HEAD_BYTES: usize = 48;
+
+    // Where its epoch stands.
+    pub const EPOCH: usize = 36;
 }
 
 // The hash of an epoch and a list's bytes.
@@ -64,7 +72,7 @@ pub fn read_record(s: &[u8]) -> Reading
         start: hash,
         len: _,
         next: after_hash,
-    } = take_array(s, after_version, 32)
+    } = take_array32(s, after_version)
     else {
         return Reading::Empty;
     };
@@ -94,13 +102,13 @@ pub fn encode_record(out: &mut [u8], epoch: u64, list: TapeList) -> Encoded
 {
     if is_storable(list) {
         let n = encoded_len(list);
-        if out.len() < 48 + n {
+        if out.len() < Reading::HEAD_BYTES + n {
             return Encoded::NoRoom;
         }
         let mut bytes = [0u8; TapeList::MOST_LIST_BYTES];
         put_list(&mut bytes, list);
         put_record(out, epoch, &bytes[..n]);
-        return Encoded::Written(48 + n);
+        return Encoded::Written(Reading::HEAD_BYTES + n);
     }
     Encoded::NotStorable
 }

@@ -19,7 +19,7 @@ pub enum Found {
 }
 
 // A byte as a wider number. As a call it needs no proof that the byte fits.
-fn wide(x: u8) -> u64
+pub fn wide(x: u8) -> u64
     ensures { λ r. ⌜ (r ≡ x) × (r < 256) ⌝ }
 {
     x as u64

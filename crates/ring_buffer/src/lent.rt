@@ -7,16 +7,6 @@ ghost use mathlib.Core.Path.{_≡_};
 ghost use Prim.Native.Nat.{_-_, _≤_, _<_};
 ghost use Rattle.ring_buffer.specs.Ring.{pushed, popped, truncated, prepared};
 
-// How far a lies above b; 0 where it does not.
-fn above(a: u64, b: u64) -> u64
-    ensures { λ r. ⌜ r ≡ a - b ⌝ }
-{
-    if a < b {
-        return 0;
-    }
-    a - b
-}
-
 fn after_push(ring: RingBuffer, n: usize, missed: u64) -> RingBuffer
     requires { ⌜ (ring .start < ring .capacity) × ((ring .len ≤ ring .capacity) × ((n ≤ ring .capacity) × (ring .capacity ≤ 4096))) ⌝ }
     ensures { λ r. ⌜ r ≡ pushed ring n missed ⌝ }
@@ -47,15 +37,15 @@ fn after_pop(ring: RingBuffer, amount: u64) -> RingBuffer
     RingBuffer {
         capacity: ring.capacity,
         start: ring.start,
-        len: above(len, amount) as usize,
-        first: above(ring.first, above(amount, len)),
+        len: components::above(len, amount) as usize,
+        first: components::above(ring.first, components::above(amount, len)),
     }
 }
 
 fn after_truncate(ring: RingBuffer, tape_len: u64) -> RingBuffer
     ensures { λ r. ⌜ r ≡ truncated ring «tape_len» ⌝ }
 {
-    let room = above(tape_len, ring.first);
+    let room = components::above(tape_len, ring.first);
     if room < ring.len as u64 {
         return RingBuffer {
             capacity: ring.capacity,

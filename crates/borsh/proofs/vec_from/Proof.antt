@@ -1,4 +1,4 @@
--- `borsh::vec_from` answers `takeVec`: the length is read where it stands, and `take_array` answers the rest. Assumes nothing.
+-- `borsh::vec_from` answers `takeVec`: the length is read where it stands, and `array_from` answers the rest. Assumes nothing.
 use mathlib.Core.Path.{sym, ap, _∙_}
 use Prim.Native.Nat.{ℕ, _+_, _≤_}
 use native.Mathlib.Omega.{arith}
@@ -13,8 +13,8 @@ use Rattle.borsh.proofs.vec_from.Tie as tie
 has-requires : tie.Need-has-requires
 has-requires c κs = search needs
 
-add-t5 : tie.Need-add-t5
-add-t5 c =
+add-array-from : tie.Need-add-array-from
+add-array-from c =
     let has = c .before .has in
     let args = c .before .before .before .args in
     let fits : args .at + 4 ≤ length (args .s .now) = leb-true _ _ (sym (has .ensures) ∙ c .if1 .taken) in
@@ -23,17 +23,17 @@ add-t5 c =
 u32-at-requires : tie.Need-u32-at-requires
 u32-at-requires c κs = leb-true _ _ (sym (c .before .has .ensures) ∙ c .if1 .taken)
 
-cast-take-array : tie.Need-cast-take-array
-cast-take-array c = search needs
+cast-array-from : tie.Need-cast-array-from
+cast-array-from c = search needs
 
-take-array-requires : tie.Need-take-array-requires
-take-array-requires c κs = search needs
+array-from-requires : tie.Need-array-from-requires
+array-from-requires c κs = search needs
 
 returns : tie.Need-returns
 returns c =
     let has = c .before .before .before .has in
     let args = c .before .before .before .before .before .args in
-    c .take-array .ensures
+    c .array-from .ensures
     ∙ ap (λ (n : ℕ). takeArray n (args .s .now) (args .at + 4)) (c .before .u32-at .ensures)
     ∙ sym (take-vec-fits (args .s .now) (args .at) (leb-true _ _ (sym (has .ensures) ∙ c .before .before .if1 .taken)))
 
@@ -48,9 +48,9 @@ vec-from-spec =
     tie.close
     (tie.spec
     has-requires
-    add-t5
+    add-array-from
     u32-at-requires
-    cast-take-array
-    take-array-requires
+    cast-array-from
+    array-from-requires
     returns
     returns-2)

@@ -53,7 +53,7 @@ here c =
     let epoch = c .before .before .before .before .before .epoch in
     let take-u64 = c .before .before .before .before .before .before .before .take-u64 in
     let hash = c .before .before .before .before .before .before .before .before .before .hash in
-    let take-array = c .before .before .before .before .before .before .before .before .before .before .before .take-array in
+    let take-array32 = c .before .before .before .before .before .before .before .before .before .before .before .take-array32 in
     let after-version = c .before .before .before .before .before .before .before .before .before .before .before .before .before .after-version in
     let take-u32 = c .before .before .before .before .before .before .before .before .before .before .before .before .before .before .before .take-u32 in
     let args = c .before .before .before .before .before .before .before .before .before .before .before .before .before .before .before .before .before .args in
@@ -63,7 +63,7 @@ here c =
     let e = epoch .given .0 in
     let l = list .given .0 in
     let version-read : takeNumber 4 s 0 ≡ Number (v .0) (v .1 .0) = sym (take-u32 .ensures) ∙ after-version .given .1 in
-    let hash-read : takeArray 32 s (v .1 .0 .at) ≡ Bytes (h .0) (h .1 .0) (h .1 .1 .0) = sym (take-array .ensures) ∙ hash .given .1 in
+    let hash-read : takeArray 32 s (v .1 .0 .at) ≡ Bytes (h .0) (h .1 .0) (h .1 .1 .0) = sym (take-array32 .ensures) ∙ hash .given .1 in
     let epoch-read : takeNumber 8 s (h .1 .1 .0 .at) ≡ Number (e .0) (e .1 .0) = sym (take-u64 .ensures) ∙ epoch .given .1 in
     let list-read : takeVec s (e .1 .0 .at) ≡ Bytes (l .0) (l .1 .0) (l .1 .1 .0) = sym (take-vec .ensures) ∙ list .given .1 in
     parts s version-read hash-read epoch-read list-read
@@ -85,8 +85,8 @@ returns c =
     let short : takeNumber 4 (args .s .now) 0 ≡ ShortNumber = sym (take-u32 .ensures) ∙ enum-told .given .1 in
     sym (read-no-version (args .s .now) short)
 
-take-array-requires : tie.Need-take-array-requires
-take-array-requires c κs = search needs
+take-array32-requires : tie.Need-take-array32-requires
+take-array32-requires c κs = search needs
 
 enum-known-hash : tie.Need-enum-known-hash
 enum-known-hash c = search needs
@@ -97,13 +97,13 @@ enum-told-2 c = search needs
 returns-2 : tie.Need-returns-2
 returns-2 c =
     let enum-told2 = c .enum-told2 in
-    let take-array = c .before .before .take-array in
+    let take-array32 = c .before .before .take-array32 in
     let after-version = c .before .before .before .before .after-version in
     let take-u32 = c .before .before .before .before .before .before .take-u32 in
     let args = c .before .before .before .before .before .before .before .before .args in
     let v = after-version .given .0 in
     let version-read : takeNumber 4 (args .s .now) 0 ≡ Number (v .0) (v .1 .0) = sym (take-u32 .ensures) ∙ after-version .given .1 in
-    let short : takeArray 32 (args .s .now) (v .1 .0 .at) ≡ ShortBytes = sym (take-array .ensures) ∙ enum-told2 .given .1 in
+    let short : takeArray 32 (args .s .now) (v .1 .0 .at) ≡ ShortBytes = sym (take-array32 .ensures) ∙ enum-told2 .given .1 in
     sym (read-no-hash (args .s .now) version-read short)
 
 take-u64-requires : tie.Need-take-u64-requires
@@ -120,14 +120,14 @@ returns-3 c =
     let enum-told3 = c .enum-told3 in
     let take-u64 = c .before .before .take-u64 in
     let hash = c .before .before .before .before .hash in
-    let take-array = c .before .before .before .before .before .before .take-array in
+    let take-array32 = c .before .before .before .before .before .before .take-array32 in
     let after-version = c .before .before .before .before .before .before .before .before .after-version in
     let take-u32 = c .before .before .before .before .before .before .before .before .before .before .take-u32 in
     let args = c .before .before .before .before .before .before .before .before .before .before .before .before .args in
     let v = after-version .given .0 in
     let h = hash .given .0 in
     let version-read : takeNumber 4 (args .s .now) 0 ≡ Number (v .0) (v .1 .0) = sym (take-u32 .ensures) ∙ after-version .given .1 in
-    let hash-read : takeArray 32 (args .s .now) (v .1 .0 .at) ≡ Bytes (h .0) (h .1 .0) (h .1 .1 .0) = sym (take-array .ensures) ∙ hash .given .1 in
+    let hash-read : takeArray 32 (args .s .now) (v .1 .0 .at) ≡ Bytes (h .0) (h .1 .0) (h .1 .1 .0) = sym (take-array32 .ensures) ∙ hash .given .1 in
     let short : takeNumber 8 (args .s .now) (h .1 .1 .0 .at) ≡ ShortNumber = sym (take-u64 .ensures) ∙ enum-told3 .given .1 in
     sym (read-no-epoch (args .s .now) version-read hash-read short)
 
@@ -147,7 +147,7 @@ returns-4 c =
     let epoch = c .before .before .before .before .epoch in
     let take-u64 = c .before .before .before .before .before .before .take-u64 in
     let hash = c .before .before .before .before .before .before .before .before .hash in
-    let take-array = c .before .before .before .before .before .before .before .before .before .before .take-array in
+    let take-array32 = c .before .before .before .before .before .before .before .before .before .before .take-array32 in
     let after-version = c .before .before .before .before .before .before .before .before .before .before .before .before .after-version in
     let take-u32 = c .before .before .before .before .before .before .before .before .before .before .before .before .before .before .take-u32 in
     let args = c .before .before .before .before .before .before .before .before .before .before .before .before .before .before .before .before .args in
@@ -155,7 +155,7 @@ returns-4 c =
     let h = hash .given .0 in
     let e = epoch .given .0 in
     let version-read : takeNumber 4 (args .s .now) 0 ≡ Number (v .0) (v .1 .0) = sym (take-u32 .ensures) ∙ after-version .given .1 in
-    let hash-read : takeArray 32 (args .s .now) (v .1 .0 .at) ≡ Bytes (h .0) (h .1 .0) (h .1 .1 .0) = sym (take-array .ensures) ∙ hash .given .1 in
+    let hash-read : takeArray 32 (args .s .now) (v .1 .0 .at) ≡ Bytes (h .0) (h .1 .0) (h .1 .1 .0) = sym (take-array32 .ensures) ∙ hash .given .1 in
     let epoch-read : takeNumber 8 (args .s .now) (h .1 .1 .0 .at) ≡ Number (e .0) (e .1 .0) = sym (take-u64 .ensures) ∙ epoch .given .1 in
     let short : takeVec (args .s .now) (e .1 .0 .at) ≡ ShortBytes = sym (take-vec .ensures) ∙ enum-told4 .given .1 in
     sym (read-no-list (args .s .now) version-read hash-read epoch-read short)
@@ -233,7 +233,7 @@ read-record-spec =
     enum-known-after-version
     enum-told
     returns
-    take-array-requires
+    take-array32-requires
     enum-known-hash
     enum-told-2
     returns-2
