@@ -1,4 +1,6 @@
 -- What a call answers, and what all the memory lent to it then holds. Assumes nothing.
+use mathlib.Core.Path.{_≡_}
+use mathlib.Core.Logic.{_≢_}
 use mathlib.Core.List.{List}
 use Prim.Native.Nat.{ℕ}
 use Rattle.answers.specs.declared.Answer.{Answer}
@@ -6,6 +8,7 @@ use Rattle.answers.specs.declared.Answer.the-variants.{Refused}
 use Rattle.answers.specs.declared.OneEntry.{OneEntry}
 use Rattle.answers.specs.declared.OneEntry.the-variants as One
 use Rattle.answers.specs.declared.Refusal.{Refusal}
+use Rattle.answers.specs.Answers.{codeOf}
 
 -- of a call that may write both areas
 pub record Outcome : Type 0 where
@@ -19,6 +22,10 @@ outcome a d s = record { answer = a; disk = d; session = s }
 -- "A refused call .. changes no lent byte"
 abbrev pub refusedAt : Refusal → List ℕ → List ℕ → Outcome
 refusedAt why d s = outcome (Refused why) d s
+
+-- and of the outcome of any call: if it is a refusal, both areas are as they were
+abbrev pub Unchanged : List ℕ → List ℕ → Outcome → Type 0
+Unchanged d s o = codeOf (o .answer) ≢ 0 → (o .disk ≡ d) × (o .session ≡ s)
 
 -- of a read: the areas are lent to be read alone
 pub record Reading : Type 0 where

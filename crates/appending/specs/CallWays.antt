@@ -1,5 +1,5 @@
 -- The ways out of the call's functions, in the code's order: a law for each. Assumes nothing.
-use mathlib.Core.Path.{_≡_, ap}
+use mathlib.Core.Path.{_≡_}
 use mathlib.Core.Logic.{_≢_}
 use mathlib.Core.Bool.{true, false}
 use mathlib.Core.List.{List}
@@ -17,6 +17,7 @@ use Rattle.session.specs.Rows.{handleOf, stagedOf, findHandle}
 use Rattle.session.specs.declared.tape_rows.Handle.{Handle}
 use Rattle.session.specs.declared.tape_rows.Staged.{Staged}
 use Rattle.session.specs.declared.views.View.{View}
+use Rattle.session.specs.RowLaws.{handle-entry}
 use Rattle.rolling_tape.specs.Removal.{areas}
 use Rattle.cached_tape.specs.Putting.{putIn}
 use Rattle.beginning.specs.Transactions.{usable}
@@ -45,13 +46,8 @@ module _ (d s : List ℕ) (p place : ℕ) (bs : List ℕ) where
 
   pub put-goes : noRoom d s p (length bs) ≡ false → (r : Staged) → r ≡ touchedAs s p → (h : Handle) → h ≡ handleOf s p → (t u : List ℕ)
       → putIn (areas d s) place p r bs ≡ areas t u → putOn d s p place bs ≡ outcome (Done (r .len / h .entry)) t u
-  unfolding putOn handleOf
-  put-goes e r row h handle t u goes = rw (e, handle, ← row, goes)
-
--- a handle's entry size is the row's
-pub whole-entry : (s : List ℕ) (p : ℕ) (bs : List ℕ) → length bs % entrySize s p ≡ 0 → length bs % handleOf s p .entry ≡ 0
-unfolding handleOf
-whole-entry s p bs e = e
+  unfolding putOn
+  put-goes e r row h handle t u goes = rw (e, handle-entry s p h handle, ← row, goes)
 
 -- ---- on a tape, by what the code sees and the handle's row
 
@@ -61,17 +57,13 @@ module _ (d s : List ℕ) (p : ℕ) (bs : List ℕ) (v : View) (seen : v ≡ see
   append-absent e = rw (← seen, e)
 
   module _ (h : Handle) (row : h ≡ handleOf s p) (listed : v .listed ≡ true) where
-    entry-same : h .entry ≡ entrySize s p
-    unfolding handleOf
-    entry-same = ap (λ (x : Handle). x .entry) row
-
     pub append-not-whole : length bs % h .entry ≢ 0 → appendOn d s p bs ≡ refusedAt NotWhole d s
     unfolding appendOn
-    append-not-whole n = rw (← seen, listed, ← entry-same, ne-eqb (length bs % h .entry) 0 n)
+    append-not-whole n = rw (← seen, listed, ← handle-entry s p h row, ne-eqb (length bs % h .entry) 0 n)
 
     module _ (whole : length bs % h .entry ≡ 0) where
       whole-test : eqb (length bs % entrySize s p) 0 ≡ true
-      whole-test = rw (← entry-same) (eq-eqb (length bs % h .entry) 0 whole)
+      whole-test = rw (← handle-entry s p h row) (eq-eqb (length bs % h .entry) 0 whole)
 
       pub append-large : 0xffff_ffff_ffff_ffff < v .len + length bs → appendOn d s p bs ≡ refusedAt TooLarge d s
       unfolding appendOn

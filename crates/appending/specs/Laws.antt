@@ -14,7 +14,7 @@ use Rattle.octets.specs.Number.{Bytes}
 use Rattle.octets.specs.declared.Found.{Found}
 use Rattle.octets.specs.declared.Found.the-variants.{At, Nothing}
 use Rattle.answers.specs.Answers.{codeOf}
-use Rattle.answers.specs.Outcome.{Outcome, outcome, refusedAt}
+use Rattle.answers.specs.Outcome.{Outcome, outcome, refusedAt, Unchanged}
 use Rattle.answers.specs.declared.Answer.{Answer}
 use Rattle.answers.specs.declared.Refusal.{Refusal}
 use Rattle.answers.specs.declared.Refusal.the-variants.{Unusable, Unknown, Absent, NotWhole, TooLarge, NoSlot, Missing}
@@ -23,6 +23,7 @@ use Rattle.layout.specs.Session.{entrySize, ringLen, handleNumber, Begun}
 use Rattle.disk.specs.StepLaws.{directory-low}
 use Rattle.session.specs.Rows.{handleOf, findHandle}
 use Rattle.session.specs.declared.tape_rows.Staged.{Staged}
+use Rattle.session.specs.RowLaws.{handle-entry}
 use Rattle.rolling_tape.specs.Removal.{areas, Areas}
 use Rattle.cached_tape.specs.Putting.{putIn}
 use Rattle.cached_tape.specs.PutLaws.{sound-putIn, slots-putIn, begun-putIn, length-putIn-disk, length-putIn-session, bytes-putIn-disk, bytes-putIn-session}
@@ -31,10 +32,10 @@ use Rattle.beginning.specs.Transactions.{usable}
 use Rattle.beginning.specs.Ways.{usable-begun, usable-disk, →usable}
 use Rattle.staging.specs.Seeing.{directoryOf, writes, seenBy, touchedAs}
 use Rattle.staging.specs.Ways.{handle-found}
-use Rattle.staging.specs.Laws.{touched-held}
+use Rattle.staging.specs.Laws.{unwritten-held}
 use Rattle.appending.specs.Room.{noRoom}
 use Rattle.appending.specs.Calls.{doneIn, putOn, putWhere, appendOn, appendIn, putCall}
-use Rattle.appending.specs.CallWays.{seen-touched, put-room, whole-entry, append-goes, call-goes}
+use Rattle.appending.specs.CallWays.{seen-touched, put-room, append-goes, call-goes}
 
 -- ---- the contract leaves nothing open
 
@@ -110,17 +111,14 @@ pub put-done : (d s : List ℕ) (t h : ℕ) (bs : List ℕ) (p place : ℕ) → 
 put-done d s t h bs p place g =
     let f = g .on in
     call-goes d s t h bs (g .sound) (g .writer) p (g .found)
-    ∙ append-goes d s p bs (seenBy s 16 p) refl (handleOf s p) refl (f .listed) (whole-entry s p bs (f .whole)) (f .fits) place (f .there)
+    ∙ append-goes d s p bs (seenBy s 16 p) refl (handleOf s p) refl (f .listed) (rw (handle-entry s p (handleOf s p) refl) (f .whole)) (f .fits) place (f .there)
     ∙ put-room d s p place bs (f .room)
 
 -- ---- a refused call changes no byte
 
 pub put-refused : (d s : List ℕ) (t h : ℕ) (bs : List ℕ) → codeOf (putCall d s t h bs .answer) ≢ 0
     → (putCall d s t h bs .disk ≡ d) × (putCall d s t h bs .session ≡ s)
-put-refused d s t h bs = put-cases Kept d s bs (λ why r. (refl, refl)) t h (λ p place g r. absurd (r refl))
-  where
-    Kept : Outcome → Type 0
-    Kept o = codeOf (o .answer) ≢ 0 → (o .disk ≡ d) × (o .session ≡ s)
+put-refused d s t h bs = put-cases (Unchanged d s) d s bs (λ why r. (refl, refl)) t h (λ p place g r. absurd (r refl))
 
 -- ---- the rules, the lengths and the bytes are kept
 
@@ -144,7 +142,7 @@ ready d s t h bs p place g =
       there = directory-low d _ place (g .on .there);
       low = f .low;
       held = f .held;
-      pending = touched-held s p b (f .low) (f .held);
+      pending = unwritten-held s p b (f .low) (f .held);
       fits = omega (arith, seen-touched s p, g .on .fits);
     }
 

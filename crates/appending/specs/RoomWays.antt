@@ -22,6 +22,7 @@ use Rattle.disk.specs.Steps.{isFree, files}
 use Rattle.session.specs.Rows.{handleOf, stagedOf}
 use Rattle.session.specs.declared.tape_rows.Handle.{Handle}
 use Rattle.session.specs.declared.tape_rows.Staged.{Staged}
+use Rattle.session.specs.RowLaws.{handle-numbered, handle-size}
 use Rattle.rolling_tape.specs.Room.{onDisk}
 use Rattle.staging.specs.Seeing.{directoryOf, touchedAs}
 use Rattle.staging.specs.Laws.{touched-fits}
@@ -48,15 +49,13 @@ numbers-fit fs low end z a b =
 
 module _ (s : List ℕ) (to p : ℕ) (h : Handle) (row : h ≡ handleOf s p) where
   pub staged-closed : h .number ≡ 0 → isStaged s to p ≡ false
-  unfolding handleOf
   staged-closed e =
-      let none : handleNumber s p ≡ 0 = sym (ap (λ (x : Handle). x .number) row) ∙ e in
+      let none : handleNumber s p ≡ 0 = sym (handle-numbered s p h row) ∙ e in
       rw (eq-eqb (handleNumber s p) 0 none)
 
   module _ (some : h .number ≢ 0) where
     opened : eqb (handleNumber s p) 0 ≡ false
-    unfolding handleOf
-    opened = ne-eqb (handleNumber s p) 0 (λ e. some (ap (λ (x : Handle). x .number) row ∙ e))
+    opened = ne-eqb (handleNumber s p) 0 (λ e. some (handle-numbered s p h row ∙ e))
 
     pub staged-to : p ≡ to → isStaged s to p ≡ true
     staged-to e = rw (opened, eq-eqb p to e)
@@ -83,8 +82,8 @@ module _ (d s : List ℕ) (to more p : ℕ) where
   module _ (r : Staged) (row : r ≡ touchedAs s p) (h : Handle) (handle : h ≡ handleOf s p) (behind : ℕ) (adds : behind ≡ cond (eqb p to) more 0) where
     pub lacking-staged : (q : Found) → q ≡ directoryOf d s p → (low end : ℕ) → low ≡ lowOf r → end ≡ endOf r behind → isStaged s to p ≡ true
         → lackingIn d (h .«file_size») low end q ≡ lackingOf d s to more p
-    unfolding lackingOf handleOf
-    lacking-staged q there low end a b e = rw (e, there, a, b, row, handle, adds)
+    unfolding lackingOf
+    lacking-staged q there low end a b e = rw (e, there, a, b, row, handle-size s p h handle, adds)
 
 -- a length that more is put behind fits: that of the tape that is appended to by the caller, and every other because it was read out of bytes
 pub ends-fit : (s : List ℕ) → Bytes s → (to more p : ℕ) → p < 8 → (to ≢ 8 → (to < 8) × (touchedAs s to .len + more < 2 ^ 64))

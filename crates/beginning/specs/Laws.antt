@@ -264,17 +264,17 @@ module _ (d s : List ℕ) where
       reader-cases (λ o. begun (o .session) ≡ true) d s (λ why. b)
       (λ t may low e. →begun _ (begun-begunAt s t Reader (may .place) (begun→ s b) (λ l. omega arith) (λ e q. omega arith)))
 
-  long : {t : ℕ} → MayBegin d s t → sessionBytes ≤ length s
-  long may = usable-begun d s (may .areas) .long
+  pub may-long : {t : ℕ} → MayBegin d s t → sessionBytes ≤ length s
+  may-long may = usable-begun d s (may .areas) .long
 
   pub append-bytes : Bytes s → Bytes (appendCall d s .session)
-  append-bytes b = append-cases (λ o. Bytes (o .session)) d s (λ why. b) (λ may alone. bytes-begunAt s 16 Append (omega arith) (long may) b)
+  append-bytes b = append-cases (λ o. Bytes (o .session)) d s (λ why. b) (λ may alone. bytes-begunAt s 16 Append (omega arith) (may-long may) b)
 
   pub truncate-bytes : Bytes s → Bytes (truncateCall d s .session)
-  truncate-bytes b = truncate-cases (λ o. Bytes (o .session)) d s (λ why. b) (λ may. bytes-begunAt s 16 Truncate (omega arith) (long may) b)
+  truncate-bytes b = truncate-cases (λ o. Bytes (o .session)) d s (λ why. b) (λ may. bytes-begunAt s 16 Truncate (omega arith) (may-long may) b)
 
   pub reader-bytes : Bytes s → Bytes (readerCall d s .session)
-  reader-bytes b = reader-cases (λ o. Bytes (o .session)) d s (λ why. b) (λ t may low e. bytes-begunAt s t Reader (may .place) (long may) b)
+  reader-bytes b = reader-cases (λ o. Bytes (o .session)) d s (λ why. b) (λ t may low e. bytes-begunAt s t Reader (may .place) (may-long may) b)
 
 -- ---- what a served call means
 

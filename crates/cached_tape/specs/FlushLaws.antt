@@ -1,6 +1,6 @@
 -- Bytes that go to a tape's files: of the session only the rows of tracking change, so the tape's row and its ring are as before; both areas stay
 -- sound, as long as they were, and bytes. Assumes nothing.
-use mathlib.Core.Path.{_≡_, refl, sym, ap, _∙_}
+use mathlib.Core.Path.{_≡_, sym, ap, _∙_}
 use mathlib.Core.Logic.{_≢_}
 use mathlib.Core.Bool.{true}
 use mathlib.Core.List.{List, _++_}
@@ -62,11 +62,6 @@ module _ (s t : List ℕ) (only : OnlyIn 4936 5960 s t) where
 
     pub unwritten-kept : (n : ℕ) → unwrittenBytes t p n ≡ unwrittenBytes s p n
     unwritten-kept n = rw (ring-kept, ringBytes-kept p)
-
--- a handle's file size is the row's
-pub fileSize-handle : (s : List ℕ) (p : ℕ) → handleOf s p .«file_size» ≡ fileSize s p
-unfolding handleOf
-fileSize-handle s p = refl
 
 -- ---- the files of a run
 

@@ -20,7 +20,7 @@ use Rattle.session.specs.RowLaws.{RingNumbers, handle-only, only-putRing, lengt
 use Rattle.session.specs.KeepLaws.{open-with, open-row, by-number, ring-sound, begun-pushRing, begun-tape, bytes-putRing, bytes-putStaged, bytes-pushRing}
 use Rattle.session.specs.declared.tape_rows.Staged.{Staged}
 use Rattle.rolling_tape.specs.Removal.{Areas, areas}
-use Rattle.rolling_tape.specs.Kept.{Kept, kept-none, kept-then}
+use Rattle.rolling_tape.specs.Kept.{KeptSound, kept-sound-none, kept-sound-then}
 use Rattle.cached_tape.specs.Flushing.{wrote, flushed}
 use Rattle.cached_tape.specs.FlushLaws.{pending-ring, begun-kept, ring-kept, number-kept, length-wrote-disk, only-wrote, bytes-wrote-session, sound-wrote, slots-wrote, bytes-wrote-disk, length-flushed-disk, length-flushed-session, only-flushed, bytes-flushed-session, sound-flushed, slots-flushed, bytes-flushed-disk}
 use Rattle.cached_tape.specs.Putting.{sentTo, cachedIn, grown, putIn}
@@ -149,7 +149,7 @@ module _ (s : List ℕ) (p len : ℕ) (bs : List ℕ) where
 -- ---- what goes to the files changes the disk's files and the session's tracking alone
 
 kept-wrote : (a : Areas) (place fs o : ℕ) (bs : List ℕ) → Sound (a .disk) → place < 8 → 0 < fs → fs ≤ 4096 → o + length bs ≤ 2 ^ 64
-    → Kept a (wrote a place fs o bs)
+    → KeptSound a (wrote a place fs o bs)
 kept-wrote a place fs o bs sound low z small fits =
     record {
       sound = sound-wrote a place fs o bs sound low z small fits;
@@ -160,7 +160,7 @@ kept-wrote a place fs o bs sound low z small fits =
 
 module _ (a : Areas) (place p : ℕ) (row : Staged) (sound : Sound (a .disk)) (begun : Begun (a .session)) (there : place < 8) (low : p < 8)
     (held : handleNumber (a .session) p ≢ 0) (pending : row .unwritten ≤ ringLen (a .session) p) where
-  pub kept-flushed : row .len < 2 ^ 64 → Kept a (flushed a place p row)
+  pub kept-flushed : row .len < 2 ^ 64 → KeptSound a (flushed a place p row)
   kept-flushed fits =
       record {
         sound = sound-flushed a place p row sound begun there low held pending fits;
@@ -177,18 +177,18 @@ module _ (a : Areas) (place p : ℕ) (row : Staged) (sound : Sound (a .disk)) (b
     abbrev r : RingBuffer
     r = ringOf (a .session) p
 
-    flush-kept : Kept a then
+    flush-kept : KeptSound a then
     flush-kept = kept-flushed (omega arith)
 
-    pub kept-sent : Kept a (sentTo a place p row bs)
+    pub kept-sent : KeptSound a (sentTo a place p row bs)
     unfolding sentTo
     kept-sent =
         let f = begun .tapes p low held in
-        picked (Kept a) (fills r (length bs)) _ _
+        picked (KeptSound a) (fills r (length bs)) _ _
         (λ e.
-        kept-then a then _ flush-kept
+        kept-sound-then a then _ flush-kept
         (kept-wrote then place (fileSize (a .session) p) (row .len) bs (flush-kept .sound) there (f .file-some) (f .file-small) (omega arith)))
-        (λ e. picked (Kept a) (pushesOut r (row .unwritten) (length bs)) _ _ (λ q. flush-kept) (λ q. kept-none a sound))
+        (λ e. picked (KeptSound a) (pushesOut r (row .unwritten) (length bs)) _ _ (λ q. flush-kept) (λ q. kept-sound-none a sound))
 
     -- bytes stay bytes
     bytes-sent-disk : Bytes (a .disk) → Bytes (a .session) → Bytes bs → Bytes (sentTo a place p row bs .disk)

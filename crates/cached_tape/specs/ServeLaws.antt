@@ -10,11 +10,9 @@ use Rattle.layout.specs.Names.{name}
 use Rattle.layout.specs.Session.{namesAt, fileSize}
 use Rattle.ring_buffer.specs.Ring.{nth, nths}
 use Rattle.ring_buffer.specs.RingLaws.{length-nths, getD-nths}
-use Rattle.session.specs.Rows.{handleOf, ringOf, ringBytes}
-use Rattle.session.specs.declared.tape_rows.Handle.{Handle}
+use Rattle.session.specs.Rows.{ringOf, ringBytes}
 use Rattle.rolling_tape.specs.Reading.{lies, byteOf, readRun}
 use Rattle.rolling_tape.specs.ReadingLaws.{canRead-none, can-lies, length-readRun, readRun-nth}
-use Rattle.cached_tape.specs.FlushLaws.{fileSize-handle}
 use Rattle.cached_tape.specs.Serving.{belowCache, canServe, served}
 
 pub length-served : (d s : List ℕ) (p o n : ℕ) → length (served d s p o n) ≡ n
@@ -26,10 +24,6 @@ pub serve-lies : (d s : List ℕ) (p o n : ℕ) → canServe d s p o n ≡ true
     → lies d (name s namesAt p) (fileSize s p) o (belowCache (ringOf s p) o n) ≡ true
 unfolding canServe
 serve-lies d s p o n h = can-lies d s true (name s namesAt p) (fileSize s p) o (belowCache (ringOf s p) o n) h
-
--- the file size of a handle that was read
-pub handle-size : (s : List ℕ) (p : ℕ) (h : Handle) → h ≡ handleOf s p → h .«file_size» ≡ fileSize s p
-handle-size s p h e = ap (λ (x : Handle). x .«file_size») e ∙ fileSize-handle s p
 
 -- out, filled in two parts
 pub two-parts : (first rest second : List ℕ) (k : ℕ) → length first ≡ k

@@ -28,7 +28,7 @@ module _ (m : Disk) (i : ℕ) (r : Slot) where
   bytes-kept Nothing d = refl
 
 -- slot i has file n of directory d
-abbrev has : Disk → ℕ → ℕ → ℕ → Bool
+abbrev pub has : Disk → ℕ → ℕ → ℕ → Bool
 has m d n i = eqb (m .slot i .owner) (d + 1) && eqb (m .slot i .number) n
 
 module _ (m : Disk) where
@@ -160,9 +160,6 @@ module _ (m : Disk) where
   count-few = count-le (used m) (m .slots) 0
 
   module _ (i : ℕ) (r : Slot) where
-    used-new : withSlot m i r .slot i .owner ≡ r .owner
-    used-new = ap (λ (x : Slot). x .owner) (slot-new m i r)
-
     used-kept : (j : ℕ) → j ≢ i → used (withSlot m i r) j ≡ used m j
     used-kept j d = ap (λ (x : Slot). not (eqb (x .owner) 0)) (slot-kept m i r j d)
 

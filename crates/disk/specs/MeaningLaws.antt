@@ -24,6 +24,7 @@ use Rattle.metadata.specs.declared.choice.Side.{Side}
 use Rattle.metadata.specs.declared.choice.Side.the-variants.{Left, Right}
 use Rattle.disk.specs.declared.files.Entry.{Entry}
 use Rattle.disk.specs.Steps.{formatted, putEntry, removed, isFile, findIn, within, findFile, files, emptySlot, emptyDirectory, fileBytes, writeAt, sideAt, sideLenAt, sideLen, sideBytes, writeSide}
+use Rattle.disk.specs.Ways.{side-place, side-short, side-from}
 use Rattle.disk.specs.StepLaws.{only-putEntry, owner-putEntry, number-putEntry, len-putEntry, filled, only-length, only-filled, word-writeAt, len-writeAt, only-sideLen, only-sideData, only-writeSide, sideLen-writeSide, slots-formatted, word-formatted, only-emptySlot, find-low}
 use Rattle.disk.specs.SoundLaws.{slots-only, sound-data, entry-room, data-room, sound-emptySlot}
 use Rattle.disk.specs.Grown.{part-written, part-front}
@@ -178,23 +179,27 @@ module _ (s : List ℕ) (sound : Sound s) where
       ∙ slot-only _ _ s u body j (λ q. omega arith) (λ q. omega arith) (sound .lengths j l))
 
   -- left or right after a write
-  side-written : (side : Side) (bs : List ℕ) → sideLen s side ≤ 512 → length bs ≤ 512 → sideLenAt side + 8 ≤ sideAt side → sideAt side + 512 ≤ 1312
-      → sideBytes (writeSide s side bs) side ≡ written (sideBytes s side) 0 bs
+  pub side-written : (side : Side) (bs : List ℕ) → length bs ≤ 512 → sideBytes (writeSide s side bs) side ≡ written (sideBytes s side) 0 bs
   unfolding sideBytes
-  side-written side bs short fit before within =
+  side-written side bs fit =
       let room = sound .head .room in
+      let place = side-place side in
+      let from = side-from side in
+      let short = side-short s sound side in
       ap (λ (n : ℕ). take n (drop (sideAt side) (writeSide s side bs))) (sideLen-writeSide s bs fit side (omega arith) (omega arith))
-      ∙ part-only _ _ _ _ (only-sideLen s side bs) (max (sideLen s side) (length bs)) (sideAt side) (λ q. before)
+      ∙ part-only _ _ _ _ (only-sideLen s side bs) (max (sideLen s side) (length bs)) (sideAt side) (λ q. omega arith)
       ∙ part-front s (sideAt side) (sideLen s side) bs (omega arith) (omega arith)
 
   -- the names, and the other side
-  names-writeSide : (side : Side) (bs : List ℕ) → length bs ≤ 512 → sideLenAt side + 8 ≤ 32 → 288 ≤ sideAt side → names (writeSide s side bs) directories ≡ names s directories
-  names-writeSide side bs fit before behind =
+  pub names-writeSide : (side : Side) (bs : List ℕ) → length bs ≤ 512 → names (writeSide s side bs) directories ≡ names s directories
+  names-writeSide side bs fit =
+      let place = side-place side in
+      let from = side-from side in
       let body = only-sideData s bs fit side in
       names-only _ _ _ _ directories (only-sideLen s side bs) (λ q. omega arith) (fit-only _ _ s _ directories body (λ q. absurd (omega arith)) (sound .names))
       ∙ names-only _ _ s _ directories body (λ q. absurd (omega arith)) (sound .names)
 
-  left-kept : (bs : List ℕ) → length bs ≤ 512 → sideBytes (writeSide s Right bs) Left ≡ sideBytes s Left
+  pub left-kept : (bs : List ℕ) → length bs ≤ 512 → sideBytes (writeSide s Right bs) Left ≡ sideBytes s Left
   left-kept bs fit =
       let u = put s 800 bs in
       let body : OnlyIn 800 1312 s u = only-sideData s bs fit Right in
@@ -202,7 +207,7 @@ module _ (s : List ℕ) (sound : Sound s) where
       side-only _ _ u _ (only-sideLen s Right bs) Left (λ q. absurd (omega arith)) (λ q. omega arith) (rw same (sound .head .left))
       ∙ side-only _ _ s u body Left (λ q. absurd (omega arith)) (λ q. absurd (omega arith)) (sound .head .left)
 
-  right-kept : (bs : List ℕ) → length bs ≤ 512 → sideBytes (writeSide s Left bs) Right ≡ sideBytes s Right
+  pub right-kept : (bs : List ℕ) → length bs ≤ 512 → sideBytes (writeSide s Left bs) Right ≡ sideBytes s Right
   right-kept bs fit =
       let u = put s 288 bs in
       let body : OnlyIn 288 800 s u = only-sideData s bs fit Left in
@@ -222,15 +227,15 @@ module _ (s : List ℕ) (sound : Sound s) where
   unfolding diskOf
   disk-writeSide Left bs fit =
       disk-is _ _ (slots-only _ _ s _ (only-writeSide s bs fit Left) (omega arith))
-      (side-written Left bs (sound .head .left) fit (omega arith) (omega arith))
+      (side-written Left bs fit)
       (right-kept bs fit)
-      (names-writeSide Left bs fit (omega arith) (omega arith))
+      (names-writeSide Left bs fit)
       (slots-writeSide Left bs fit)
   disk-writeSide Right bs fit =
       disk-is _ _ (slots-only _ _ s _ (only-writeSide s bs fit Right) (omega arith))
       (left-kept bs fit)
-      (side-written Right bs (sound .head .right) fit (omega arith) (omega arith))
-      (names-writeSide Right bs fit (omega arith) (omega arith))
+      (side-written Right bs fit)
+      (names-writeSide Right bs fit)
       (slots-writeSide Right bs fit)
 
 -- ---- a directory emptied: its files' slots one after the other

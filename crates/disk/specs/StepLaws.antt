@@ -24,6 +24,7 @@ use Rattle.metadata.specs.declared.choice.Side.{Side}
 use Rattle.metadata.specs.declared.choice.Side.the-variants.{Left, Right}
 use Rattle.disk.specs.declared.files.Entry.{Entry}
 use Rattle.disk.specs.Steps.{formatted, entryOf, putEntry, removed, isFile, isFree, findIn, freeSlot, addAt, addDirectory, emptySlot, emptyDirectory, makeNew, makeUnless, makeFile, fileBytes, writeAt, sideAt, sideLenAt, sideLen, writeSide}
+use Rattle.disk.specs.Ways.{side-place}
 
 -- ---- an entry put
 
@@ -146,14 +147,6 @@ module _ (s : List ℕ) (side : Side) (bs : List ℕ) where
   pub length-writeSide : length (writeSide s side bs) ≡ length s
   length-writeSide = only-sideLen .long ∙ length-put s (sideAt side) bs
 
-side-low : (side : Side) → sideLenAt side + 8 ≤ 32
-side-low Left = omega arith
-side-low Right = omega arith
-
-side-high : (side : Side) → sideAt side + 512 ≤ 1312
-side-high Left = omega arith
-side-high Right = omega arith
-
 module _ (s : List ℕ) (bs : List ℕ) (fit : length bs ≤ 512) where
   pub only-sideData : (side : Side) → OnlyIn (sideAt side) (sideAt side + 512) s (put s (sideAt side) bs)
   only-sideData side = only-wider _ _ (sideAt side) (sideAt side + 512) s _ (omega arith) (omega arith) (only-put s (sideAt side) bs)
@@ -161,7 +154,7 @@ module _ (s : List ℕ) (bs : List ℕ) (fit : length bs ≤ 512) where
   pub sideLen-writeSide : (side : Side) → 32 ≤ length s → sideLen s side < 256 ^ 8 → sideLen (writeSide s side bs) side ≡ max (sideLen s side) (length bs)
   unfolding writeSide
   sideLen-writeSide side room f =
-      let low = side-low side in
+      let place = side-place side in
       numAt-putNum-same 8 _ (sideLenAt side) _ (simp length-put (omega arith)) (omega arith)
 
   -- clear of the length and of the side's bytes
@@ -186,8 +179,7 @@ module _ (s : List ℕ) (bs : List ℕ) (fit : length bs ≤ 512) where
   pub bytes-writeSide : (side : Side) → 1312 ≤ length s → Bytes s → Bytes bs → Bytes (writeSide s side bs)
   unfolding writeSide
   bytes-writeSide side room p q =
-      let low = side-low side in
-      let high = side-high side in
+      let place = side-place side in
       bytes-putNum 8 _ (sideLenAt side) _ (simp length-put (omega arith)) (bytes-put s (sideAt side) bs (omega arith) p q)
 
 -- ---- format

@@ -15,7 +15,7 @@ use Rattle.octets.specs.Cases.{decide}
 use Rattle.octets.specs.Compare.{sameBytes}
 use Rattle.octets.specs.declared.Found.the-variants.{At, Nothing}
 use Rattle.layout.specs.Names.{name, findName, putName}
-use Rattle.layout.specs.Disk.{mark, directories, rightAt, entryAt, owner, number, len, Sound}
+use Rattle.layout.specs.Disk.{mark, directories, leftAt, rightAt, entryAt, owner, number, len, Sound}
 use Rattle.metadata.specs.declared.choice.Side.{Side}
 use Rattle.metadata.specs.declared.choice.Side.the-variants.{Left, Right}
 use Rattle.disk.specs.declared.files.Entry.{Entry}
@@ -107,6 +107,10 @@ module _ (s : List ℕ) where
 pub side-place : (side : Side) → (sideAt side ≤ rightAt) × (sideLenAt side ≤ 24)
 side-place Left = (omega arith, omega arith)
 side-place Right = (omega arith, omega arith)
+
+pub side-from : (side : Side) → leftAt ≤ sideAt side
+side-from Left = omega arith
+side-from Right = omega arith
 
 pub side-short : (s : List ℕ) → Sound s → (side : Side) → sideLen s side ≤ 512
 side-short s h Left = h .head .left

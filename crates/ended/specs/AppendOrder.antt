@@ -12,6 +12,7 @@ use Rattle.answers.specs.Outcome.{Outcome}
 use Rattle.metadata.specs.Struct.{storable}
 use Rattle.layout.specs.Disk.{directories}
 use Rattle.layout.specs.Names.{name, findName}
+use Rattle.layout.specs.NamesLaws.{name-low}
 use Rattle.layout.specs.Session.{namesAt, handleNumber}
 use Rattle.session.specs.declared.head.Head.{Head}
 use Rattle.session.specs.declared.views.View.{View}
@@ -33,7 +34,7 @@ use Rattle.touches.specs.Rows.{row-stays, handle-stays, ring-stays, cache-stays
 use Rattle.joins.specs.FilesAt.{Once}
 use Rattle.seen.specs.Seen.{placeOf, Handled}
 use Rattle.seen.specs.Orderly.{Orderly}
-use Rattle.seen.specs.Places.{found-low, find-same}
+use Rattle.seen.specs.Places.{find-same}
 use Rattle.seen.specs.Rows.{number-row, shut-row, was-open, readers-once, readers-given, handled-rows, touched-staged}
 use Rattle.seen.specs.Lists.{free-unpublished, commit-open, commit-recorded}
 use Rattle.ended.specs.Flushes.{Inside}
@@ -165,4 +166,4 @@ module _ (d s : List ℕ) (o : Orderly d s) (k : ℕ) (w : writes s k ≡ true) 
   -- ---- handles are as before
 
   pub commit-append-handled : (n : List ℕ) (handle entry : ℕ) → Handled s n handle entry → Handled u n handle entry
-  commit-append-handled n = handled-rows s u n (same-place n) (λ p at. same-handle p (found-low s namesAt n p at))
+  commit-append-handled n = handled-rows s u n (same-place n) (λ p at. same-handle p (name-low s namesAt n p at))

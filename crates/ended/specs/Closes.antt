@@ -9,6 +9,7 @@ use native.Mathlib.Omega.{arith}
 use borrow.Author.Tests.{eq-eqb, ne-eqb}
 use lib.Dec.{eqb}
 use Rattle.octets.specs.declared.Found.the-variants.{At}
+use Rattle.layout.specs.NamesLaws.{name-low}
 use Rattle.layout.specs.Session.{namesAt, handleNumber}
 use Rattle.layout.specs.SessionLaws.{begun→, →begun}
 use Rattle.session.specs.declared.head.Head.{Head}
@@ -31,10 +32,9 @@ use Rattle.lives.specs.Told.{Told}
 use Rattle.lives.specs.Invariant.{Phys, Good, build}
 use Rattle.seen.specs.Seen.{placeOf, stagedIn, writerAs, countOpen, Seen, Handled}
 use Rattle.seen.specs.Orderly.{Orderly, orderly-usable}
-use Rattle.seen.specs.Places.{found-low}
 use Rattle.seen.specs.Rows.{open-row, shut-row, count-rows, untouched-unwritten, untouched-rows, view-in, touched-in, staged-in, touched-as, number-row}
 use Rattle.seen.specs.GoodTapes.{all-written}
-use Rattle.seen.specs.Counts.{Others, open-less, open-place, in-without, find-some}
+use Rattle.seen.specs.Counts.{isNumber, Others, open-less, open-place, in-without, find-some}
 use Rattle.seen.specs.Leaving.{Leaves, changed, leaves-is, head-is, view-is, transaction-is, staged-is, left-handled, seen-then, Ordered, orderly-left, Staying}
 use Rattle.seen.specs.Begins.{open-kind}
 use Rattle.seen.specs.Transactions.{found-transaction}
@@ -145,8 +145,8 @@ module _ (d s : List ℕ) (o : Orderly d s) (k t : ℕ) (found : findTransaction
     reader-listed =
         let a = found-transaction s k t found in
         find-some k (st .readers)
-        (rw (← seen .readers (λ r. eqb k (r .number)))
-        (open-place (λ r. eqb k (r .number)) s (placeOf s n) t low (a .opened) (eq-eqb k (transactionOf s t .number) (sym (a .number)))))
+        (rw (← seen .readers (isNumber k))
+        (open-place (isNumber k) s (placeOf s n) t low (a .opened) (eq-eqb k (transactionOf s t .number) (sym (a .number)))))
 
     past-writer : (kind : Kind) (number epoch : ℕ) (v : View) → (isOpen kind ≡ true → number ≢ k) → stepDrop st k (writerAs kind number epoch v) ≡ stepDropReader st k
     past-writer K.Closed number epoch v apart = refl
@@ -165,7 +165,7 @@ module _ (d s : List ℕ) (o : Orderly d s) (k t : ℕ) (found : findTransaction
     other-readers =
         record {
           opens = λ x l e. open-other s dropped t reader-closes x (omega arith) e;
-          readers = λ x l e. rw (reader-closes .others x (omega arith) e, view-in s dropped (placeOf s n) x (λ p at. reader-closes .views x p (omega arith) (found-low s namesAt n p at)));
+          readers = λ x l e. rw (reader-closes .others x (omega arith) e, view-in s dropped (placeOf s n) x (λ p at. reader-closes .views x p (omega arith) (name-low s namesAt n p at)));
         }
 
     pub drop-reader-told : step (L.drop′ k) st .answer ≡ L.Done 0
@@ -180,8 +180,8 @@ module _ (d s : List ℕ) (o : Orderly d s) (k t : ℕ) (found : findTransaction
         open-less has s dropped (placeOf s n) t low other-readers k (found-transaction s k t found .number) (shut s dropped t reader-closes) (λ x l. alone x (omega arith))
         ∙ seen .readers (λ r. has r && not (eqb k (r .number)))
         ∙ sym (in-without has k (st .readers)))
-        (rw (reader-writer, staged-in s dropped (placeOf s n) (λ p at. reader-staged p (found-low s namesAt n p at)) (λ p at. reader-closes .views 16 p (omega arith) (found-low s namesAt n p at))) (seen .writer))
-        (touched-in s dropped (placeOf s n) (λ p at. reader-staged p (found-low s namesAt n p at)) ∙ seen .touched)
+        (rw (reader-writer, staged-in s dropped (placeOf s n) (λ p at. reader-staged p (name-low s namesAt n p at)) (λ p at. reader-closes .views 16 p (omega arith) (name-low s namesAt n p at))) (seen .writer))
+        (touched-in s dropped (placeOf s n) (λ p at. reader-staged p (name-low s namesAt n p at)) ∙ seen .touched)
         (λ p l there live.
         let before = seen .opened p there live in
         record {
@@ -243,7 +243,7 @@ module _ (d s : List ℕ) (o : Orderly d s) (k : ℕ) (found : findTransaction s
     kept-readers : (has : Reader → Bool) → countOpen has left-by (placeOf s n) ≡ countOpen has s (placeOf s n)
     kept-readers =
         count-rows s left-by (placeOf s n) (placeOf s n) (λ x l. truncate-closes .others x (omega arith) (λ q. omega arith))
-        (λ x l. view-in s left-by (placeOf s n) x (λ p at. truncate-closes .views x p (omega arith) (found-low s namesAt n p at)))
+        (λ x l. view-in s left-by (placeOf s n) x (λ p at. truncate-closes .views x p (omega arith) (name-low s namesAt n p at)))
 
     pub drop-truncate-told : step (L.drop′ k) st .answer ≡ L.Done 0
     drop-truncate-told = ap (λ (x : L.After). x .answer) truncate-step
@@ -255,7 +255,7 @@ module _ (d s : List ℕ) (o : Orderly d s) (k : ℕ) (found : findTransaction s
         (truncate-closes .last ∙ seen .last)
         (λ has. kept-readers has ∙ seen .readers has)
         (rw (truncate-closes .own))
-        (untouched-rows left-by (placeOf s n) (λ p at. none-touched p (found-low s namesAt n p at)))
+        (untouched-rows left-by (placeOf s n) (λ p at. none-touched p (name-low s namesAt n p at)))
         (λ p l there live.
         record {
           unwritten = untouched-unwritten left-by p (none-touched p l) ∙ sym (written live);

@@ -16,6 +16,7 @@ use Rattle.answers.specs.Outcome.{Outcome}
 use Rattle.components.specs.Epochs.{oldestOther}
 use Rattle.layout.specs.Disk.{directories}
 use Rattle.layout.specs.Names.{name, findName}
+use Rattle.layout.specs.NamesLaws.{name-low}
 use Rattle.layout.specs.Session.{namesAt, fileSize}
 use Rattle.session.specs.declared.head.Head.{Head}
 use Rattle.session.specs.declared.tape_rows.Staged.{Staged}
@@ -35,7 +36,7 @@ use Rattle.lives.specs.Invariant.{Phys, eraseW, build, top, Live, GoodIf, Good}
 use Rattle.joins.specs.FilesAt.{filesAt, heldAt}
 use Rattle.seen.specs.Seen.{placeOf, shown, viewIn, stagedIn, writerIn, touchedIn, filesIn, filesFor, SeenOpen, Seen}
 use Rattle.seen.specs.Orderly.{Orderly}
-use Rattle.seen.specs.Places.{found-low, found-name, found-at}
+use Rattle.seen.specs.Places.{found-name, found-at}
 use Rattle.seen.specs.Rows.{size-row, untouched-unwritten, untouched-rows, view-rows, live-rows, count-rows, touched-staged}
 use Rattle.seen.specs.Counts.{seen-oldest}
 use Rattle.seen.specs.Handles.{live-at}
@@ -98,7 +99,7 @@ module _ (d s : List ℕ) (o : Orderly d s) (k : ℕ) (w : writes s k ≡ true) 
 
   module _ (n : List ℕ) where
     list-after : (tape : Found) → placeOf s n ≡ tape → viewIn u 17 tape ≡ stagedIn s tape
-    list-after (At p) at = let low = found-low s namesAt n p at in ap shown (left d s o k w served .list p low ∙ published-seen p low)
+    list-after (At p) at = let low = name-low s namesAt n p at in ap shown (left d s o k w served .list p low ∙ published-seen p low)
     list-after Nothing at = refl
 
   writer-after : (tape : Found) → writerIn u tape ≡ Writer.idle
@@ -130,7 +131,7 @@ module _ (d s : List ℕ) (o : Orderly d s) (k : ℕ) (w : writes s k ≡ true) 
 
     module _ (p : ℕ) (at : placeOf s n ≡ At p) (touched : isTouched s p ≡ true) where
       low : p < 8
-      low = found-low s namesAt n p at
+      low = name-low s namesAt n p at
 
       live : st .live ≡ true
       live = sym (seen .live) ∙ live-at s n p at (touched-held s p touched)
@@ -176,7 +177,7 @@ module _ (d s : List ℕ) (o : Orderly d s) (k : ℕ) (w : writes s k ≡ true) 
         by : (f : Found) → placeOf s n ≡ f → filesFor e u n ≡ heldThen s k w v st .files
         by (At p) at =
             let staged : isTouched s p ≡ st .touched
-            = touched-staged d s o p (found-low s namesAt n p at) ∙ ap (touchedIn s) (sym at) ∙ seen .touched in
+            = touched-staged d s o p (name-low s namesAt n p at) ∙ ap (touchedIn s) (sym at) ∙ seen .touched in
             decide (isTouched s p)
             (λ (t : isTouched s p ≡ true). let own : st .touched ≡ true = sym staged ∙ t in rw own (files-settled p at t))
             (λ (t : isTouched s p ≡ false).
@@ -188,7 +189,7 @@ module _ (d s : List ℕ) (o : Orderly d s) (k : ℕ) (w : writes s k ≡ true) 
     opened-after : (p : ℕ) → placeOf u n ≡ At p → st .live ≡ true → SeenOpen u p (storeThen s k w v st .store)
     opened-after p there live =
         let at : placeOf s n ≡ At p = sym (same-place d s o k w served n) ∙ there in
-        let low = found-low s namesAt n p at in
+        let low = name-low s namesAt n p at in
         let old = seen .opened p at live in
         let was-held = st .held in
         let size = st .size in
@@ -219,7 +220,7 @@ module _ (d s : List ℕ) (o : Orderly d s) (k : ℕ) (w : writes s k ≡ true) 
         let place = same-place d s o k w served n in
         let head = left d s o k w served .head in
         let view-after : (t : ℕ) → t < 16 → viewIn u t (placeOf u n) ≡ viewIn s t tape
-        = λ t l. view-rows s u n place t (λ p at. left d s o k w served .views t p (omega arith) (found-low s namesAt n p at)) in
+        = λ t l. view-rows s u n place t (λ p at. left d s o k w served .views t p (omega arith) (name-low s namesAt n p at)) in
         subst (λ (a : After). Seen e u n (a .store)) (sym (step-is s k w tape st (seen .writer)))
         (record {
           epoch = ap (λ (h : Head). h .epoch) head ∙ ap (λ (x : ℕ). x + 1) (seen .epoch);
@@ -230,8 +231,8 @@ module _ (d s : List ℕ) (o : Orderly d s) (k : ℕ) (w : writes s k ≡ true) 
           writer = writer-after (placeOf u n);
           touched =
               untouched-rows u (placeOf u n)
-              (λ p at. ap (λ (r : Staged). r .touched) (left d s o k w served .unstaged p (found-low u namesAt n p at)));
-          live = live-rows s u n place (λ p at. same-handle d s o k w served p (found-low s namesAt n p at)) ∙ seen .live;
+              (λ p at. ap (λ (r : Staged). r .touched) (left d s o k w served .unstaged p (name-low u namesAt n p at)));
+          live = live-rows s u n place (λ p at. same-handle d s o k w served p (name-low s namesAt n p at)) ∙ seen .live;
           files = files-after;
           opened = opened-after;
         })

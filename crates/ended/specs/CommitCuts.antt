@@ -10,14 +10,14 @@ use Rattle.octets.specs.Cases.{decide}
 use Rattle.octets.specs.declared.Found.{Found}
 use Rattle.octets.specs.declared.Found.the-variants.{At, Nothing}
 use Rattle.answers.specs.Answers.{codeOf}
-use Rattle.answers.specs.declared.Answer.the-variants as A
 use Rattle.layout.specs.Names.{name}
+use Rattle.layout.specs.NamesLaws.{name-low}
 use Rattle.layout.specs.Session.{namesAt, handleNumber}
 use Rattle.session.specs.declared.head.Head.{Head}
 use Rattle.session.specs.declared.tape_rows.Staged.{Staged}
 use Rattle.session.specs.declared.views.View.{View}
-use Rattle.session.specs.Rows.{headOf, viewOf, ringOf, ringBytes, stagedOf}
-use Rattle.cached_tape.specs.FlushLaws.{fileSize-handle}
+use Rattle.session.specs.Rows.{headOf, viewOf, handleOf, ringOf, ringBytes, stagedOf}
+use Rattle.session.specs.RowLaws.{handle-size}
 use Rattle.staging.specs.Seeing.{isTruncate, writes, seenBy}
 use Rattle.ending.specs.Committing.{commitCall}
 use Rattle.ending.specs.Listing.{isTouched}
@@ -28,7 +28,7 @@ use Rattle.lives.specs.Life.{Reader, cutting, Store, After, Done, step, commit,
 use Rattle.lives.specs.Told.{Told}
 use Rattle.seen.specs.Seen.{placeOf, shown, viewIn, stagedIn, touchedIn, filesFor, countOpen, Seen, Handled}
 use Rattle.seen.specs.Orderly.{Orderly}
-use Rattle.seen.specs.Places.{found-low, found-name, not-found, find-same}
+use Rattle.seen.specs.Places.{found-name, not-found, find-same}
 use Rattle.seen.specs.Rows.{size-row, list-at, touched-at, untouched-unwritten, untouched-rows, view-rows, live-rows, count-rows, handled-rows, touched-staged}
 use Rattle.seen.specs.GoodTapes.{good-bounded, all-written}
 use Rattle.seen.specs.Touching.{its-rows}
@@ -58,7 +58,7 @@ module _ (d s e u : List ℕ) (o : Orderly d s) (k : ℕ) (c : CutLeft d s k e u
     -- a tape in place p
     module _ (p : ℕ) (found : placeOf s n ≡ At p) where
       low : p < 8
-      low = found-low s namesAt n p found
+      low = name-low s namesAt n p found
 
       its-len : staged-len n ≡ shown (seenBy s 16 p) .len
       its-len = ap (λ (f : Found). stagedIn s f .len) found
@@ -127,7 +127,7 @@ module _ (d s e u : List ℕ) (o : Orderly d s) (k : ℕ) (c : CutLeft d s k e u
         (λ (touched : isTouched s p ≡ true).
         let o₁ = its-rows d s n o p found (touched-held s p touched) st seen in
         let now : st .touched ≡ true = sym (touched-at d s n st seen p found o) ∙ touched in
-        all ∙ rw (sym (is-touched-row s p) ∙ touched, now, touched-len p found touched, fileSize-handle s p, o₁ .size, seen .files))
+        all ∙ rw (sym (is-touched-row s p) ∙ touched, now, touched-len p found touched, handle-size s p (handleOf s p) refl, o₁ .size, seen .files))
         (λ (untouched : isTouched s p ≡ false).
         let now : st .touched ≡ false = sym (touched-at d s n st seen p found o) ∙ untouched in
         all ∙ rw (sym (is-touched-row s p) ∙ untouched, now, seen .files))
@@ -174,7 +174,7 @@ module _ (d s e u : List ℕ) (o : Orderly d s) (k : ℕ) (c : CutLeft d s k e u
           list = list-now starts bounded;
           readers = λ has. readers-same has ∙ seen .readers has;
           writer = rw (c .shut);
-          touched = untouched-rows u (placeOf u n) (λ p found. untouched-now p (found-low u namesAt n p found));
+          touched = untouched-rows u (placeOf u n) (λ p found. untouched-now p (name-low u namesAt n p found));
           live = live-rows s u n (place-same n) (λ p found. c .handles p (low p found)) ∙ seen .live;
           files = files-now;
           opened = λ p found live.
@@ -215,4 +215,4 @@ module _ (d s : List ℕ) (o : Orderly d s) (k : ℕ) (served : codeOf (commitCa
         cut-seen d s disk session o k c n (build t p) seen starts (good-bounded t p good) (all-written t p good k _ (its-writer d s disk session o k c n (build t p) seen))
 
     pub commit-cut-handled : (handle entry : ℕ) → Handled s n handle entry → Handled session n handle entry
-    commit-cut-handled = handled-rows s session n (place-same d s disk session o k c n) (λ p found. c .handles p (found-low s namesAt n p found))
+    commit-cut-handled = handled-rows s session n (place-same d s disk session o k c n) (λ p found. c .handles p (name-low s namesAt n p found))

@@ -10,7 +10,7 @@ use borrow.Author.Tests.{eq-eqb, ne-eqb}
 use lib.ListN.{length}
 use Rattle.octets.specs.Cases.{decide}
 use Rattle.octets.specs.Compare.{comesBefore, before-irrefl, before-trans, before-total}
-use Rattle.octets.specs.First.{count, count-le, count-same, count-more, all-true}
+use Rattle.octets.specs.First.{count, count-le, count-same, count-more}
 use Rattle.octets.specs.declared.Found.{Found}
 use Rattle.octets.specs.declared.Found.the-variants.{At, Nothing}
 use Rattle.answers.specs.Outcome.{Outcome}
@@ -22,7 +22,7 @@ use Rattle.session.specs.Rows.{headOf, viewOf, stagedOf}
 use Rattle.beginning.specs.Transactions.{isOpenAt}
 use Rattle.staging.specs.Seeing.{writes, cuts}
 use Rattle.appending.specs.Room.{noRoom}
-use Rattle.ending.specs.Checking.{isPublished, hasDirectory, allThere, isWhole, mayCommit}
+use Rattle.ending.specs.Checking.{isPublished, isWhole, mayCommit}
 use Rattle.ending.specs.CommitLaws.{theList}
 use Rattle.ending.specs.CommitMeaning.{writes-cuts}
 use Rattle.ending.specs.CommitWays.{append-served, truncate-served, commit-appends, commit-truncates}
@@ -45,6 +45,7 @@ use Rattle.seen.specs.Places.{found-at}
 use Rattle.seen.specs.ProperLaws.{listed-named}
 use Rattle.ended.specs.Turns.{touched-named}
 use Rattle.seen.specs.Kinds.{writes-kind, writes-open, cuts-open}
+use Rattle.seen.specs.Rooms.{all-there}
 use Rattle.seen.specs.Lists.{behind-none, published-apart, published-named}
 
 -- ---- the list has as many tapes as are published, where no two of them have one name
@@ -123,15 +124,6 @@ module _ (d s : List ℕ) (o : Orderly d s) (running : isOpenAt s 16 ≡ true) (
       (λ (listed : published s cut p .listed ≡ true). rw (listed, behind-none (name s namesAt p) (published-named d s o running cut p (omega arith) listed)))
       (λ (unlisted : published s cut p .listed ≡ false). rw unlisted)))
 
-  all-there : allThere d s ≡ true
-  unfolding allThere
-  all-there =
-      all-true (hasDirectory d s) 8 0
-      (λ p a b.
-      decide (isTouched s p)
-      (λ (t : isTouched s p ≡ true). rw (t, o .folder p (omega arith) (touched-held s p t)))
-      (λ (t : isTouched s p ≡ false). rw t))
-
   module _ (proper : Proper d s) (more : headOf s .epoch ≢ 0xffff_ffff_ffff_ffff)
       (bounded : Bounded s cut) where
     list-storable : storable (theList s cut) ≡ true
@@ -140,7 +132,7 @@ module _ (d s : List ℕ) (o : Orderly d s) (running : isOpenAt s 16 ≡ true) (
 
     may-commit : mayCommit d s cut (theList s cut) ≡ Done (headOf s .epoch + 1)
     unfolding mayCommit
-    may-commit = rw (list-whole, list-storable, ne-eqb (headOf s .epoch) 0xffff_ffff_ffff_ffff more, all-there)
+    may-commit = rw (list-whole, list-storable, ne-eqb (headOf s .epoch) 0xffff_ffff_ffff_ffff more, all-there d s o)
 
 -- ---- the calls
 

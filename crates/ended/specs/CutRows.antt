@@ -31,12 +31,11 @@ use Rattle.disk.specs.Meaning.{Disk, diskOf, withSide, slotWith, directoryNamed
 use Rattle.disk.specs.MeaningLaws.{disk-writeSide, find-directory}
 use Rattle.disk.specs.Steps.{sideBytes}
 use Rattle.ring_buffer.specs.Ring.{truncated}
-use Rattle.session.specs.KeepLaws.{begun-ready, bytes-putRing, bytes-putStaged}
+use Rattle.session.specs.KeepLaws.{begun-ready}
 use Rattle.session.specs.declared.tracking.Tracking.{Tracking}
 use Rattle.session.specs.Meaning.{untouched, sessionOf}
 use Rattle.session.specs.MeaningLaws.{trackings-only}
-use Rattle.session.specs.Rows.{headOf, handleOf, ringOf, ringBytes, stagedOf, putStaged}
-use Rattle.session.specs.RowLaws.{length-putStaged}
+use Rattle.session.specs.Rows.{headOf, handleOf, ringOf, ringBytes, stagedOf}
 use Rattle.rolling_tape.specs.Files.{fileAt, filesOf}
 use Rattle.rolling_tape.specs.Removal.{areas}
 use Rattle.rolling_tape.specs.Room.{isFound}
@@ -45,7 +44,7 @@ use Rattle.rolling_tape.specs.TrackingLaws.{only-retracked}
 use Rattle.rolling_tape.specs.declared.tracking.Change.the-variants.{ClearFrom}
 use Rattle.beginning.specs.Laws.{refusal-some}
 use Rattle.staging.specs.Seeing.{directoryOf, writes}
-use Rattle.ending.specs.CutLaws.{begun-cutTape, bytes-cutTape, begun-cutRing, begun-cutAll}
+use Rattle.ending.specs.CutLaws.{begun-cutTape, bytes-cutTape, begun-cutRing, begun-cutAll, bytes-cutRing}
 use Rattle.ending.specs.Listing.{isTouched}
 use Rattle.ending.specs.CommitLaws.{theList, commit-cases, only-stored-disk, only-stored, slots-stored, whole-stored}
 use Rattle.ending.specs.Committing.{stored, truncatedBy, commitCall}
@@ -74,15 +73,10 @@ module _ (d t : List ℕ) (sound : Sound d) (begun : Begun t) (bytes : Bytes t) 
   ring-step = cut-becomes t (begun-ready t begun) i low bytes
 
   ring-bytes : Bytes ringed
-  unfolding cutRing
-  ring-bytes =
-      let u = putStaged t i untouched in
-      let same = length-putStaged t i untouched in
-      let long = begun .long in
-      bytes-putRing u (bytes-putStaged t bytes i untouched (omega arith)) i (truncated (ringOf t i) (stagedOf t i .len)) (omega arith)
+  ring-bytes = bytes-cutRing i t low (begun .long) bytes
 
   ring-whole : Whole (areas d ringed)
-  ring-whole = record { sound = sound; begun = begun-cutRing i t low begun bytes; bytes = ring-bytes }
+  ring-whole = record { sound = sound; begun = begun-cutRing i t low begun; bytes = ring-bytes }
 
   module _ (is : isTouched t i ≡ true) (place : ℕ) (found : directoryOf d t i ≡ At place) (n : ℕ) where
     abbrev cleared : List ℕ
@@ -149,7 +143,7 @@ module _ (d s : List ℕ) (sound : Sound d) (begun : Begun s) (bytes : Bytes s) 
   Q t = Begun t × Bytes t
 
   cut-keeps : (i : ℕ) (t : List ℕ) → i < 8 → Q t → (touchedRow (rowOf t i) ≡ true → rowOf t i ≡ rowOf s i) → Q (cutTape d i t)
-  cut-keeps i t l k first = (begun-cutTape d (sound .head .few) i t l (k .0) (k .1), bytes-cutTape d (sound .head .few) i t l (k .0 .long) (k .1))
+  cut-keeps i t l k first = (begun-cutTape d (sound .head .few) i t l (k .0), bytes-cutTape d (sound .head .few) i t l (k .0 .long) (k .1))
 
   turn : (i : ℕ) (t : List ℕ) → i < 8 → Q t → (touchedRow (rowOf t i) ≡ true → rowOf t i ≡ rowOf s i)
       → Turn d t (cutTape d i t) i (name s namesAt i) (rowAfterCut (rowOf t i)) (filesAfterCut (rowOf t i) (filesFor d t (name s namesAt i)))
@@ -293,7 +287,7 @@ module _ (d s : List ℕ) (o : Orderly d s) (list : TapeList) (ok : storable lis
   unfolding truncatedBy
   cut-end =
       let c = cutAll e₁ s₁ in
-      let begun = begun-cutAll e₁ (whole₁ .sound .head .few) s₁ (whole₁ .begun) (whole₁ .bytes) in
+      let begun = begun-cutAll e₁ (whole₁ .sound .head .few) s₁ (whole₁ .begun) in
       let rows = cut-rows e₁ s₁ (whole₁ .sound) (whole₁ .begun) (whole₁ .bytes) apart₁ in
       let files = cut-files e₁ s₁ (whole₁ .sound) (whole₁ .begun) (whole₁ .bytes) apart₁ in
       let others = cut-apart e₁ s₁ (whole₁ .sound) (whole₁ .begun) (whole₁ .bytes) apart₁ in

@@ -16,6 +16,7 @@ use Rattle.octets.specs.declared.Found.{Found}
 use Rattle.octets.specs.declared.Found.the-variants.{At, Nothing}
 use Rattle.answers.specs.declared.Answer.the-variants.{Done}
 use Rattle.layout.specs.Names.{name, findName}
+use Rattle.layout.specs.NamesLaws.{name-low}
 use Rattle.layout.specs.Session.{namesAt, handleNumber, Begun}
 use Rattle.session.specs.declared.head.Head.{Head}
 use Rattle.session.specs.declared.tape_rows.Staged.{Staged}
@@ -23,6 +24,7 @@ use Rattle.session.specs.declared.transactions.Kind.the-variants as K
 use Rattle.session.specs.declared.views.View.{View}
 use Rattle.session.specs.Meaning.{noHandle, closed, untouched}
 use Rattle.session.specs.Rows.{headOf, viewOf, transactionOf, handleOf, ringBytes, stagedOf, isClosed, isOpenAs, findTransaction}
+use Rattle.session.specs.RowLaws.{handle-numbered}
 use Rattle.beginning.specs.Transactions.{After, after, isOpenAt}
 use Rattle.beginning.specs.Ways.{→usable}
 use Rattle.ending.specs.CutLaws.{shut-closeWriter}
@@ -34,8 +36,8 @@ use Rattle.touches.specs.Drops.{DropLeaves, drop-transaction-leaves}
 use Rattle.touches.specs.Rows.{head-stays, view-stays, transaction-stays, cache-stays}
 use Rattle.seen.specs.Seen.{placeOf, shown, viewIn, filesFor}
 use Rattle.seen.specs.Orderly.{Orderly}
-use Rattle.seen.specs.Places.{found-low, found-name, not-found, found-at}
-use Rattle.seen.specs.Rows.{number-of, number-row, shut-row, was-open, readers-once, readers-given, touched-staged}
+use Rattle.seen.specs.Places.{found-name, not-found, found-at}
+use Rattle.seen.specs.Rows.{number-row, shut-row, was-open, readers-once, readers-given, touched-staged}
 use Rattle.seen.specs.Lists.{recorded-same}
 use Rattle.ended.specs.Ends.{Row, rowOf, is-touched-row, touched-apart, closed-row, closed-files}
 use Rattle.ended.specs.DropRows.{rowAfterDrop, filesAfterDrop, drop-rows, drop-files, drop-apart}
@@ -109,7 +111,7 @@ module _ (d s : List ℕ) (o : Orderly d s) (k : ℕ) (u : List ℕ) (c : DropLe
       gone-row = rw (sym (is-touched-row s p) ∙ is, seen-listed ∙ none) (refl, refl)
 
       pub gone-number : handleNumber u p ≡ 0
-      gone-number = number-of u p noHandle (ap (λ (r : Row). r .handle) (c .rows p low) ∙ gone-row .0)
+      gone-number = sym (handle-numbered u p noHandle (sym (ap (λ (r : Row). r .handle) (c .rows p low) ∙ gone-row .0)))
 
       pub gone-name : name u namesAt p ≡ []
       gone-name = ap (λ (r : Row). r .name) (c .rows p low) ∙ gone-row .1
@@ -151,7 +153,7 @@ module _ (d s : List ℕ) (o : Orderly d s) (k : ℕ) (u : List ℕ) (c : DropLe
 
     module _ (p : ℕ) (found : placeOf s n ≡ At p) where
       low : p < 8
-      low = found-low s namesAt n p found
+      low = name-low s namesAt n p found
 
       -- no other place has the name
       alone : (q : ℕ) → q < 8 → name s namesAt q ≡ n → q ≡ p

@@ -13,6 +13,7 @@ use Rattle.octets.specs.Cases.{picked, decide, equal, and-l}
 use Rattle.octets.specs.First.{count-same}
 use Rattle.octets.specs.declared.Found.{Found}
 use Rattle.octets.specs.declared.Found.the-variants.{At, Nothing}
+use Rattle.layout.specs.NamesLaws.{name-low}
 use Rattle.layout.specs.Session.{namesAt, handleNumber}
 use Rattle.session.specs.declared.head.Head.{Head}
 use Rattle.session.specs.declared.tape_rows.Staged.{Staged}
@@ -25,9 +26,9 @@ use Rattle.ending.specs.Dropping.{dropTransactionCall}
 use Rattle.ending.specs.Listing.{isTouched}
 use Rattle.held.specs.Held.{Held, takenBack}
 use Rattle.lives.specs.Life.{Reader, idle, appending, Store, After, Done, step, drop′, then, asleep}
-use Rattle.seen.specs.Seen.{placeOf, viewIn, stagedIn, readerIn, touchedIn, liveIn, handleIn, entryIn, filesFor, countOpen, Seen, Handled}
+use Rattle.seen.specs.Seen.{placeOf, viewIn, stagedIn, readerIn, touchedIn, isOpenTape, handleIn, entryIn, filesFor, countOpen, Seen, Handled}
 use Rattle.seen.specs.Orderly.{Orderly}
-use Rattle.seen.specs.Places.{found-low, found-name, not-found}
+use Rattle.seen.specs.Places.{found-name, not-found}
 use Rattle.seen.specs.Rows.{entry-row, size-row, open-row, list-at, touched-at, untouched-unwritten, untouched-rows, touched-staged}
 use Rattle.seen.specs.Shown.{shown-keeps}
 use Rattle.ended.specs.Turns.{no-place}
@@ -51,7 +52,7 @@ module _ (d s : List ℕ) (o : Orderly d s) (k : ℕ) (u : List ℕ) (c : DropLe
     where
       by : (f : Found) → tape ≡ f → P
       by (At p) found =
-          let l = found-low s namesAt n p found in
+          let l = name-low s namesAt n p found in
           fate d s o k u c p l (λ is unlisted. gone p found l is unlisted) (λ st. stays p found l st)
       by Nothing found = none found
 
@@ -104,20 +105,20 @@ module _ (d s : List ℕ) (o : Orderly d s) (k : ℕ) (u : List ℕ) (c : DropLe
         let none : st .listed ≡ false = sym (its-listed p found l) ∙ unlisted in
         all ∙ rw (sym (is-touched-row s p) ∙ is, seen-listed d s o k u c p l ∙ unlisted, now, none, seen .files))
 
-    live-now : liveIn u (placeOf u n) ≡ (st .live && st .listed)
+    live-now : isOpenTape u (placeOf u n) ≡ (st .live && st .listed)
     live-now =
-        cases (liveIn u (placeOf u n) ≡ (st .live && st .listed))
-        (λ found. ap (liveIn u) (place-none d s o k u c n some found) ∙ rw (sym (seen .live) ∙ ap (liveIn s) found))
+        cases (isOpenTape u (placeOf u n) ≡ (st .live && st .listed))
+        (λ found. ap (isOpenTape u) (place-none d s o k u c n some found) ∙ rw (sym (seen .live) ∙ ap (isOpenTape s) found))
         (λ p found l stays.
-        let live : st .live ≡ not (eqb (handleNumber s p) 0) = sym (seen .live) ∙ ap (liveIn s) found in
-        ap (liveIn u) (place-stays d s o k u c n some p found stays)
+        let live : st .live ≡ not (eqb (handleNumber s p) 0) = sym (seen .live) ∙ ap (isOpenTape s) found in
+        ap (isOpenTape u) (place-stays d s o k u c n some p found stays)
         ∙ rw (stays-number d s o k u c p l stays, live)
         (equal (handleNumber s p) 0
         (λ (e : handleNumber s p ≡ 0). rw (eq-eqb (handleNumber s p) 0 e))
         (λ (held : handleNumber s p ≢ 0).
         rw (ne-eqb (handleNumber s p) 0 held) (sym (sym (its-listed p found l) ∙ stays-listed d s o k u c p l stays held)))))
         (λ p found l is unlisted.
-        ap (liveIn u) (place-gone d s o k u c n some p found is unlisted) ∙ sym (ap (λ (b : Bool). st .live && b) (sym (its-listed p found l) ∙ unlisted) ∙ and-false (st .live)))
+        ap (isOpenTape u) (place-gone d s o k u c n some p found is unlisted) ∙ sym (ap (λ (b : Bool). st .live && b) (sym (its-listed p found l) ∙ unlisted) ∙ and-false (st .live)))
 
     readers-same : (has : Reader → Bool) → countOpen has u (placeOf u n) ≡ countOpen has s tape
     unfolding countOpen
@@ -143,7 +144,7 @@ module _ (d s : List ℕ) (o : Orderly d s) (k : ℕ) (u : List ℕ) (c : DropLe
           (λ q found l is unlisted. absurd (no-place (sym (place-gone d s o k u c n some q found is unlisted) ∙ now)))
 
       low : p < 8
-      low = found-low u namesAt n p now
+      low = name-low u namesAt n p now
 
       ring-now : st .live ≡ true → (ringOf u p ≡ held-now .ring) × (ringBytes u p ≡ held-now .cache) × (0 ≡ held-now .unwritten)
       unfolding takenBack touchedAs

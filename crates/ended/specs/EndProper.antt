@@ -40,7 +40,6 @@ use Rattle.ending.specs.CutLaws.{only-closeWriter}
 use Rattle.touches.specs.Commits.{commit-touches-session, commit-touches-disk, commit-leaves-session, commit-leaves-disk}
 use Rattle.touches.specs.Drops.{drop-transaction-leaves}
 use Rattle.touches.specs.Parts.{stays-within}
-use Rattle.touches.specs.Parts as P
 use Rattle.seen.specs.Orderly.{Orderly}
 use Rattle.seen.specs.Proper.{Proper}
 use Rattle.seen.specs.Lists.{commit-open}

@@ -5,7 +5,7 @@ use mathlib.Core.Path.{_≡_, refl, sym, ap, _∙_}
 use mathlib.Core.Logic.{_≢_}
 use mathlib.Core.Bool.{true, false}
 use mathlib.Core.List.{List}
-use Prim.Native.Nat.{ℕ, zero, suc, _+_, _-_, _≤_, _<_}
+use Prim.Native.Nat.{ℕ, _+_, _-_, _≤_, _<_}
 use native.Mathlib.Omega.{arith}
 use borrow.Author.Tests.{ne-eqb, ltb-false}
 use Rattle.octets.specs.Cases.{decide}
@@ -33,13 +33,14 @@ use Rattle.appending.specs.RoomWays.{all-turn}
 use Rattle.ending.specs.Listing.{isTouched}
 use Rattle.ending.specs.Steps.{flushIn, flushTape, flushAll}
 use Rattle.ending.specs.StepLaws as Step
-use Rattle.ending.specs.StepLaws.{Kept, touched-held, staged-pending, staged-fits, kept-flushTape}
+use Rattle.ending.specs.StepLaws.{Kept, touched-held, staged-pending, staged-fits, kept-none, kept-then, kept-flushTape}
 use Rattle.held.specs.Held.{flush}
 use Rattle.joins.specs.FilesAt.{filesAt, heldAt, Once}
 use Rattle.joins.specs.Ranges.{lacking-last, last-part}
 use Rattle.joins.specs.Writes.{Grown}
 use Rattle.joins.specs.Sends.{Lacks, flushed-files}
-use Rattle.ended.specs.Turns.{Turns, turns-end, turns-other, turns-own, touchedPlace, place-touched, place-directory, touched-place, touched-its-row, folder-kept, directory-kept, touched-kept, PlacesApart, kept-none, kept-then, turn-nowhere}
+use Rattle.seen.specs.Lacking.{open-lacking, all-from}
+use Rattle.ended.specs.Turns.{Turns, turns-end, turns-other, turns-own, touchedPlace, place-touched, place-directory, touched-place, touched-its-row, folder-kept, directory-kept, touched-kept, PlacesApart, turn-nowhere}
 
 -- ---- what a touched tape lacks
 
@@ -50,18 +51,11 @@ module _ (x s : List ℕ) (p : ℕ) (low : p < 8) where
 
   -- of the staged bytes
   lacking-touched : isTouched s p ≡ true → lackingOf x s 8 0 p ≡ lackingIn x (fileSize s p) (lowOf (stagedOf s p)) (endOf (stagedOf s p) 0) (directoryOf x s p)
-  unfolding lackingOf
-  lacking-touched t = rw (staged-touched ∙ t, touched-its-row s p t .1, ne-eqb p 8 (λ q. omega arith))
+  lacking-touched t = open-lacking x s p low (touched-held s p t) ∙ rw (touched-its-row s p t .1)
 
   lacking-untouched : isTouched s p ≡ false → lackingOf x s 8 0 p ≡ 0
   unfolding lackingOf
   lacking-untouched t = rw (staged-touched ∙ t)
-
--- of all tapes
-lacking-all : (x y s : List ℕ) (k i : ℕ) → ((p : ℕ) → i ≤ p → p < i + k → lackingOf y s 8 0 p ≡ lackingOf x s 8 0 p) → lackingAll y s 8 0 k i ≡ lackingAll x s 8 0 k i
-unfolding lackingAll
-lacking-all x y s zero i same = refl
-lacking-all x y s (suc k) i same = rw (same i (omega arith) (omega arith), lacking-all x y s k (i + 1) (λ p l m. same p (omega arith) (omega arith)))
 
 -- ---- one tape's flush
 
@@ -203,7 +197,7 @@ module _ (a : Areas) (start : Step.Whole a) (apart : PlacesApart (a .disk) (a .s
               own-lacking,
               kept-flush .slots-same,
               changed .count (fileOf fs (lowOf row)) (covered fs (lowOf row) (row .len)) first-above last-below,
-              lacking-all (b .disk) (flushed b place p row .disk) (a .session) (8 - (p + 1)) (p + 1) (λ q l m. others-lack q (omega arith) (omega arith)),
+              all-from (b .disk) (a .session) (flushed b place p row .disk) (a .session) 8 0 (8 - (p + 1)) (p + 1) (λ q l m. others-lack q (omega arith) (omega arith)),
             );
           }
 

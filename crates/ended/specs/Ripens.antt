@@ -14,11 +14,11 @@ use Rattle.session.specs.declared.views.View.{View}
 use Rattle.rolling_tape.specs.Removal.{Areas}
 use Rattle.cached_tape.specs.FlushLaws.{fileSize-kept}
 use Rattle.ending.specs.Steps.{ripenIn, ripenedAt, ripenTape, ripenAll}
-use Rattle.ending.specs.StepLaws.{Whole, Kept, whole-kept, kept-ripenTape}
+use Rattle.ending.specs.StepLaws.{Whole, Kept, kept-none, whole-kept, kept-then, kept-ripenTape}
 use Rattle.joins.specs.FilesAt.{filesAt, Once}
 use Rattle.joins.specs.Tracks.{Changed}
 use Rattle.joins.specs.Directories.{changed-ripened}
-use Rattle.ended.specs.Turns.{Turns, turns-end, turns-other, turns-own, touchedPlace, place-touched, place-directory, directory-kept, touched-kept, PlacesApart, kept-none, kept-then, turn-nowhere}
+use Rattle.ended.specs.Turns.{Turns, turns-end, turns-other, turns-own, touchedPlace, place-touched, place-directory, directory-kept, touched-kept, PlacesApart, turn-nowhere}
 
 -- as far as some tapes are done
 record Ripening (a : Areas) (p : ℕ) (b : Areas) : Type 0 where

@@ -9,7 +9,6 @@ use native.Mathlib.Omega.{arith}
 use lib.Dec.{eqb}
 use lib.ListN.{length}
 use Rattle.octets.specs.Cases.{decide, equal, and-r}
-use Rattle.octets.specs.Only.{only-none, only-then}
 use Rattle.octets.specs.Sweep.{sweep}
 use Rattle.octets.specs.declared.Found.{Found}
 use Rattle.octets.specs.declared.Found.the-variants.{At, Nothing}
@@ -29,6 +28,7 @@ use Rattle.joins.specs.FilesAt.{filesAt}
 use Rattle.seen.specs.Orderly.{Orderly}
 use Rattle.seen.specs.Places.{found-name, find-same}
 use Rattle.seen.specs.Rows.{open-named}
+use Rattle.seen.specs.Touching.{touched-row}
 
 -- ---- a step for each tape, in the tape's own directory
 
@@ -93,8 +93,8 @@ touched-place d s p t = rw t
 
 -- such a tape's row
 pub touched-its-row : (s : List ℕ) (p : ℕ) → isTouched s p ≡ true → (stagedOf s p .touched ≡ true) × (touchedAs s p ≡ stagedOf s p)
-unfolding isTouched touchedAs
-touched-its-row s p t = let staged = and-r (not (eqb (handleNumber s p) 0)) (stagedOf s p .touched) t in (staged, (rw staged))
+unfolding isTouched
+touched-its-row s p t = let staged = and-r (not (eqb (handleNumber s p) 0)) (stagedOf s p .touched) t in (staged, touched-row s p staged)
 
 -- steps in the rows of tracking and in the file table leave them
 pub folder-kept : (a b : Areas) → Step.Whole a → Kept a b → (n : List ℕ) → findName (b .disk) directories n ≡ findName (a .disk) directories n
@@ -134,29 +134,3 @@ places-apart d s o p q place lp lq e f =
     let here = found-name d directories (name s namesAt p) place (place-directory d s p place e) in
     let there = found-name d directories (name s namesAt q) place (place-directory d s q place f) in
     o .names p q lp lq (touched-named d s o p lp (place-touched d s p place e)) (sym here ∙ there)
-
--- ---- steps one behind the other
-
-pub kept-none : (a : Areas) → Step.Whole a → Kept a a
-kept-none a w =
-    record {
-      sound = w .sound;
-      slots-same = refl;
-      long = refl;
-      only = only-none 4936 5960 (a .session);
-      only-disk = only-none 1312 (dataAt (slots (a .disk))) (a .disk);
-      bytes-session = w .bytes;
-      bytes-disk = λ b. b;
-    }
-
-pub kept-then : (a b c : Areas) → Kept a b → Kept b c → Kept a c
-kept-then a b c k l =
-    record {
-      sound = l .sound;
-      slots-same = l .slots-same ∙ k .slots-same;
-      long = l .long ∙ k .long;
-      only = only-then 4936 5960 (a .session) (b .session) (c .session) (k .only) (l .only);
-      only-disk = only-then 1312 (dataAt (slots (a .disk))) (a .disk) (b .disk) (c .disk) (k .only-disk) (rw (k .slots-same) at (l .only-disk));
-      bytes-session = l .bytes-session;
-      bytes-disk = λ d. l .bytes-disk (k .bytes-disk d);
-    }

@@ -11,7 +11,7 @@ use Rattle.octets.specs.Cases.{picked}
 use Rattle.octets.specs.Number.{Bytes}
 use Rattle.octets.specs.Only.{OnlyIn, only-then, only-wider}
 use Rattle.answers.specs.Answers.{codeOf}
-use Rattle.answers.specs.Outcome.{Outcome, outcome, refusedAt}
+use Rattle.answers.specs.Outcome.{Outcome, outcome, refusedAt, Unchanged}
 use Rattle.answers.specs.declared.Answer.{Answer}
 use Rattle.answers.specs.declared.Answer.the-variants.{Done, Refused}
 use Rattle.answers.specs.declared.Refusal.{Refusal}
@@ -150,14 +150,14 @@ module _ (d s : List ℕ) (w : Whole (areas d s)) (list : TapeList) (ok : storab
       let few = y .sound .head .few in
       let u = cutAll (b .disk) (b .session) in
       let only = only-cutAll (b .disk) few (b .session) in
-      let begun = begun-cutAll (b .disk) few (b .session) (y .begun) (y .bytes) in
+      let begun = begun-cutAll (b .disk) few (b .session) (y .begun) in
       record {
         sound = y .sound;
         begun = begun-closeWriter u begun;
         slots-same = slots-stored start true list ok;
         long-disk = only-stored-disk start true list ok .long;
         long-session = only-closeWriter u .long ∙ only .long ∙ only-stored start true list ok .long;
-        bytes-session = bytes-closeWriter u (begun .long) (bytes-cutAll (b .disk) few (b .session) (y .begun) (y .bytes));
+        bytes-session = bytes-closeWriter u (begun .long) (bytes-cutAll (b .disk) few (b .session) (y .begun .long) (y .bytes));
         bytes-disk = bytes-stored-disk start true list ok w;
         answer = refl;
         epoch =
@@ -210,20 +210,16 @@ module _ (P : Outcome → Type 0) (d s : List ℕ) (no : (why : Refusal) → P (
 -- ---- a refused commit changes no byte
 
 module _ (d s : List ℕ) where
-  Unchanged : Outcome → Type 0
-  Unchanged o = codeOf (o .answer) ≢ 0 → (o .disk ≡ d) × (o .session ≡ s)
-
-  appended-done : (list : TapeList) → Unchanged (appended d s list)
-  unfolding appended Unchanged
+  appended-done : (list : TapeList) → Unchanged d s (appended d s list)
+  unfolding appended
   appended-done list r = absurd (r refl)
 
-  truncated-done : (list : TapeList) → Unchanged (truncatedBy d s list)
-  unfolding truncatedBy Unchanged
+  truncated-done : (list : TapeList) → Unchanged d s (truncatedBy d s list)
+  unfolding truncatedBy
   truncated-done list r = absurd (r refl)
 
   pub commit-refused : (t : ℕ) → codeOf (commitCall d s t .answer) ≢ 0 → (commitCall d s t .disk ≡ d) × (commitCall d s t .session ≡ s)
-  unfolding Unchanged
-  commit-refused t = commit-cases Unchanged d s (λ why r. (refl, refl)) t (λ ok w v g room. appended-done _) (λ ok c v g. truncated-done _)
+  commit-refused t = commit-cases (Unchanged d s) d s (λ why r. (refl, refl)) t (λ ok w v g room. appended-done _) (λ ok c v g. truncated-done _)
 
 -- ---- a served one, and what is kept by both
 

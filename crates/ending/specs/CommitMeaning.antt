@@ -25,8 +25,7 @@ use Rattle.layout.specs.Disk.{directories, Sound}
 use Rattle.layout.specs.Names.{names}
 use Rattle.layout.specs.NamesLaws.{names-only}
 use Rattle.layout.specs.Session.{sessionBytes, namesAt, viewAt, tapeAt}
-use Rattle.disk.specs.Meaning.{Disk, diskOf}
-use Rattle.disk.specs.MeaningLaws.{side-only, disk-writeSide}
+use Rattle.disk.specs.MeaningLaws.{side-only, side-written, names-writeSide, left-kept, right-kept}
 use Rattle.disk.specs.Steps.{sideBytes, writeSide}
 use Rattle.session.specs.Meaning.{closed, untouched}
 use Rattle.session.specs.Rows.{headOf, viewOf, transactionOf, stagedOf}
@@ -145,20 +144,9 @@ side-behind end d e only sound Left = side-only 1312 end d e only Left (λ q. ab
 side-behind end d e only sound Right = side-only 1312 end d e only Right (λ q. absurd (omega arith)) (λ q. absurd (omega arith)) (sound .head .right)
 
 module _ (d : List ℕ) (sound : Sound d) (bs : List ℕ) (fit : length bs ≤ 512) where
-  side-own : (side : Side) → sideBytes (writeSide d side bs) side ≡ written (sideBytes d side) 0 bs
-  unfolding diskOf
-  side-own Left = ap (λ (m : Disk). m .left) (disk-writeSide d sound Left bs fit)
-  side-own Right = ap (λ (m : Disk). m .right) (disk-writeSide d sound Right bs fit)
-
   side-other : (side : Side) → sideBytes (writeSide d side bs) (otherSide side) ≡ sideBytes d (otherSide side)
-  unfolding diskOf
-  side-other Left = ap (λ (m : Disk). m .right) (disk-writeSide d sound Left bs fit)
-  side-other Right = ap (λ (m : Disk). m .left) (disk-writeSide d sound Right bs fit)
-
-  names-kept : (side : Side) → names (writeSide d side bs) directories ≡ names d directories
-  unfolding diskOf
-  names-kept Left = ap (λ (m : Disk). m .directory) (disk-writeSide d sound Left bs fit)
-  names-kept Right = ap (λ (m : Disk). m .directory) (disk-writeSide d sound Right bs fit)
+  side-other Left = right-kept d sound bs fit
+  side-other Right = left-kept d sound bs fit
 
 -- ---- both kinds: steps in the rows of tracking, list and record, steps in the tapes' rows, the writer's place
 
@@ -257,7 +245,7 @@ module _ (d s : List ℕ) (w : Whole (areas d s)) (a : Areas) (x : Whole a) (bef
           let side = headOf s .side in
           side-behind end (then .disk) t after sound-then side
           ∙ ap (λ (e : List ℕ). sideBytes e side) then-disk
-          ∙ side-own (a .disk) (x .sound) (recordFor (headOf s) list) fits side
+          ∙ side-written (a .disk) (x .sound) side (recordFor (headOf s) list) fits
           ∙ ap (λ (old : List ℕ). written old 0 (recordFor (headOf s) list)) (side-behind first d (a .disk) files (w .sound) side)
 
       other-left : sideBytes t (otherSide (headOf s .side)) ≡ sideBytes d (otherSide (headOf s .side))
@@ -272,7 +260,7 @@ module _ (d s : List ℕ) (w : Whole (areas d s)) (a : Areas) (x : Whole a) (bef
       known-left =
           names-only 1312 end (then .disk) t directories after (λ q. absurd (omega arith)) (sound-then .names)
           ∙ ap (λ (e : List ℕ). names e directories) then-disk
-          ∙ names-kept (a .disk) (x .sound) (recordFor (headOf s) list) fits (headOf s .side)
+          ∙ names-writeSide (a .disk) (x .sound) (headOf s .side) (recordFor (headOf s) list) fits
           ∙ names-only 1312 first d (a .disk) directories files (λ q. absurd (omega arith)) (w .sound .names)
 
 -- ---- each kind

@@ -2,21 +2,21 @@
 -- Assumes nothing.
 use mathlib.Core.Path.{_≡_, refl, _∙_}
 use mathlib.Core.List.{List}
-use Prim.Native.Nat.{ℕ, _+_, _*_, _≤_, _<_}
+use Prim.Native.Nat.{ℕ, _≤_, _<_}
 use native.Mathlib.Omega.{arith}
 use lib.ListN.{length}
 use Rattle.octets.specs.Cases.{picked}
-use Rattle.octets.specs.Number.{Bytes, numAt-lt}
+use Rattle.octets.specs.Number.{Bytes}
 use Rattle.octets.specs.Only.{OnlyIn, only-none, only-then, only-wider}
 use Rattle.octets.specs.Sweep.{sweep, sweep-keeps}
 use Rattle.octets.specs.declared.Found.{Found}
 use Rattle.octets.specs.declared.Found.the-variants.{At, Nothing}
 use Rattle.layout.specs.Disk.{slots}
-use Rattle.layout.specs.Session.{sessionBytes, tapeAt, fileSize, Begun}
+use Rattle.layout.specs.Session.{sessionBytes, fileSize, Begun}
 use Rattle.ring_buffer.specs.Ring.{truncated}
-use Rattle.session.specs.Rows.{headOf, transactionOf, handleOf, ringOf, putRing, stagedOf, putStaged}
-use Rattle.session.specs.RowLaws.{RingNumbers, StagedFits, head-only, only-putTransaction, transaction-same, handle-only, only-putRing, ring-same, only-putStaged, staged-same, staged-only}
-use Rattle.session.specs.KeepLaws.{Open, open-with, ranged, begun-tape, begun-putTransaction, begun-putStaged, bytes-putTransaction, bytes-putRing, bytes-putStaged}
+use Rattle.session.specs.Rows.{headOf, transactionOf, ringOf, stagedOf, putStaged}
+use Rattle.session.specs.RowLaws.{StagedFits, head-only, only-putTransaction, transaction-same, only-putRing, only-putStaged, staged-same, ring-only}
+use Rattle.session.specs.KeepLaws.{Open, open-with, begun-putTransaction, begun-putStaged, bytes-putTransaction, bytes-putRing, bytes-putStaged, open-row, begun-putRing}
 use Rattle.session.specs.declared.tape_rows.Handle.{Handle}
 use Rattle.session.specs.declared.tape_rows.Staged.{Staged}
 use Rattle.session.specs.Meaning.{closed, untouched}
@@ -46,17 +46,6 @@ module _ (p : ℕ) (s : List ℕ) (low : p < 8) where
   unfolding unstage
   only-unstage = only-wider _ _ 4168 4936 s _ (omega arith) (omega arith) (only-putStaged s p untouched)
 
-  -- the ring that a cut leaves
-  cut-numbers : Bytes s → (len : ℕ) → RingNumbers (truncated (ringOf s p) len)
-  unfolding truncated ringOf
-  cut-numbers bytes len =
-      record {
-        capacity = numAt-lt 8 s _ bytes;
-        start = numAt-lt 8 s _ bytes;
-        len = omega (arith, numAt-lt 8 s (tapeAt p + 5 * 8) bytes);
-        first = numAt-lt 8 s _ bytes;
-      }
-
   -- the staged record first, then the ring: both are in the tape's row
   pub only-cutRing : OnlyIn 4168 4936 s (cutRing p s)
   unfolding cutRing
@@ -66,7 +55,7 @@ module _ (p : ℕ) (s : List ℕ) (low : p < 8) where
       (only-wider _ _ 4168 4936 s u (omega arith) (omega arith) (only-putStaged s p untouched))
       (only-wider _ _ 4168 4936 u _ (omega arith) (omega arith) (only-putRing u p (truncated (ringOf s p) (stagedOf s p .len))))
 
-  bytes-cutRing : sessionBytes ≤ length s → Bytes s → Bytes (cutRing p s)
+  pub bytes-cutRing : sessionBytes ≤ length s → Bytes s → Bytes (cutRing p s)
   unfolding cutRing
   bytes-cutRing long bytes =
       let u = putStaged s p untouched in
@@ -78,23 +67,16 @@ module _ (p : ℕ) (s : List ℕ) (low : p < 8) where
   unfolding truncated
   cut-open len o = open-with o (o .small) (o .inside) (omega (arith, o .short)) (omega arith)
 
-  pub begun-cutRing : Begun s → Bytes s → Begun (cutRing p s)
+  pub begun-cutRing : Begun s → Begun (cutRing p s)
   unfolding cutRing
-  begun-cutRing begun bytes =
-      let r = truncated (ringOf s p) (stagedOf s p .len) in
+  begun-cutRing begun =
       let u = putStaged s p untouched in
-      let t = putRing u p r in
-      let same = only-putStaged s p untouched .long in
       let long = begun .long in
-      let first = only-putStaged s p untouched in
-      let then = only-putRing u p r in
-      let handle : handleOf t p ≡ handleOf s p = handle-only _ _ u t then p (λ q. omega arith) ∙ handle-only _ _ s u first p (λ q. omega arith) in
-      let ring : ringOf t p ≡ r = ring-same u p r (omega arith) (cut-numbers bytes (stagedOf s p .len)) in
-      let staged : stagedOf t p ≡ untouched = staged-only _ _ u t then p (λ q. omega arith) ∙ staged-same s p untouched (omega arith) untouched-fits in
-      begun-tape (tapeAt p) (tapeAt p + 96) s t
-      (only-then _ _ s u t (only-wider _ _ _ _ s u (omega arith) (omega arith) first) (only-wider _ _ _ _ u t (omega arith) (omega arith) then))
-      p low (omega arith) (omega arith) begun
-      (rw (handle, ring, staged) (λ held. cut-open (stagedOf s p .len) (ranged s begun p low held)))
+      let ring : ringOf u p ≡ ringOf s p = ring-only _ _ s u (only-putStaged s p untouched) p (λ q. omega arith) in
+      let staged : stagedOf u p ≡ untouched = staged-same s p untouched (omega arith) untouched-fits in
+      let first : Begun u = begun-putStaged s begun p low untouched (λ held. omega arith) in
+      begun-putRing u first p low (truncated (ringOf s p) (stagedOf s p .len))
+      (λ held. rw staged (cut-open (stagedOf s p .len) (rw ring at (open-row u first p low held))))
 
 module _ (d : List ℕ) (few : slots d ≤ 64) (p : ℕ) (s : List ℕ) (low : p < 8) where
   -- what holds after the ring is cut, and after the marks are cleared too, holds after the step
@@ -117,9 +99,9 @@ module _ (d : List ℕ) (few : slots d ≤ 64) (p : ℕ) (s : List ℕ) (low : p
       only-then 4168 5960 s (cutRing p s) _ ring
       (only-wider 4936 5960 4168 5960 _ _ (omega arith) (omega arith) (only-retracked d (cutRing p s) place c few)))
 
-  pub begun-cutTape : Begun s → Bytes s → Begun (cutTape d p s)
-  begun-cutTape begun bytes =
-      let ring = begun-cutRing p s low begun bytes in
+  pub begun-cutTape : Begun s → Begun (cutTape d p s)
+  begun-cutTape begun =
+      let ring = begun-cutRing p s low begun in
       cut-either Begun begun ring (λ place c. begun-retracked d (cutRing p s) place c few ring)
 
   pub bytes-cutTape : sessionBytes ≤ length s → Bytes s → Bytes (cutTape d p s)
@@ -135,18 +117,16 @@ module _ (d : List ℕ) (few : slots d ≤ 64) (s : List ℕ) where
       (λ p t l h k. only-then 4168 5960 s t _ k (only-cutTape d few p t (omega arith)))
       (only-none 4168 5960 s)
 
-  module _ (begun : Begun s) (bytes : Bytes s) where
-    both-cutAll : Begun (cutAll d s) × Bytes (cutAll d s)
-    both-cutAll =
-        sweep-keeps (λ (t : List ℕ). Begun t × Bytes t) (cutTape d) 8 0 s
-        (λ p t l h k. (begun-cutTape d few p t (omega arith) (k .0) (k .1), bytes-cutTape d few p t (omega arith) (k .0 .long) (k .1)))
-        (begun, bytes)
+  pub begun-cutAll : Begun s → Begun (cutAll d s)
+  begun-cutAll begun = sweep-keeps Begun (cutTape d) 8 0 s (λ p t l h b. begun-cutTape d few p t (omega arith) b) begun
 
-    pub begun-cutAll : Begun (cutAll d s)
-    begun-cutAll = both-cutAll .0
-
-    pub bytes-cutAll : Bytes (cutAll d s)
-    bytes-cutAll = both-cutAll .1
+  pub bytes-cutAll : sessionBytes ≤ length s → Bytes s → Bytes (cutAll d s)
+  bytes-cutAll long bytes =
+      sweep-keeps (λ (t : List ℕ). (length t ≡ length s) × Bytes t) (cutTape d) 8 0 s
+      (λ p t l h k.
+      let kept = k .0 in
+      (only-cutTape d few p t (omega arith) .long ∙ k .0, bytes-cutTape d few p t (omega arith) (omega arith) (k .1)))
+      (refl, bytes) .1
 
 -- ---- the writer's place
 

@@ -37,8 +37,7 @@ use Rattle.staging.specs.Seeing.{directoryOf, isAppend}
 use Rattle.staging.specs.Ways.{transaction-low}
 use Rattle.ending.specs.Listing.{isTouched}
 use Rattle.ending.specs.Steps.{unstage, closeWriter}
-use Rattle.ending.specs.CutLaws.{begun-unstage, bytes-unstage}
-use Rattle.ending.specs.CutLaws.{untouched-fits, begun-closeWriter, bytes-closeWriter}
+use Rattle.ending.specs.CutLaws.{begun-unstage, bytes-unstage, untouched-fits, begun-closeWriter, bytes-closeWriter}
 use Rattle.ending.specs.Dropping.{reverted, untrackIn, forgotten, takeBack, dropAppend, dropAt, dropFound, dropTransactionCall}
 
 -- ---- lengths are kept

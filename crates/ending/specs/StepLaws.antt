@@ -71,7 +71,7 @@ pub record Whole (a : Areas) : Type 0 where
   pub begun : Begun (a .session)
   pub bytes : Bytes (a .session)
 
--- what they keep
+-- what they keep: more than `KeptSound` of rolling_tape says, since of the disk too it says which bytes change, and that bytes stay bytes
 pub record Kept (a b : Areas) : Type 0 where
   pub sound : Sound (b .disk)
   pub slots-same : slots (b .disk) ≡ slots (a .disk)
@@ -83,7 +83,7 @@ pub record Kept (a b : Areas) : Type 0 where
   pub bytes-disk : Bytes (a .disk) → Bytes (b .disk)
 
 module _ (a : Areas) (w : Whole a) where
-  kept-none : Kept a a
+  pub kept-none : Kept a a
   kept-none =
       record {
         sound = w .sound;
@@ -104,23 +104,23 @@ module _ (a : Areas) (w : Whole a) where
           bytes = k .bytes-session;
         }
 
-    kept-then : (c : Areas) → Kept b c → Kept a c
-    kept-then c l =
-        record {
-          sound = l .sound;
-          slots-same = l .slots-same ∙ k .slots-same;
-          long = l .long ∙ k .long;
-          only = only-then 4936 5960 (a .session) (b .session) (c .session) (k .only) (l .only);
-          only-disk = only-then 1312 (dataAt (slots (a .disk))) (a .disk) (b .disk) (c .disk) (k .only-disk) (rw (k .slots-same) at (l .only-disk));
-          bytes-session = l .bytes-session;
-          bytes-disk = λ d. l .bytes-disk (k .bytes-disk d);
-        }
+pub kept-then : (a b c : Areas) → Kept a b → Kept b c → Kept a c
+kept-then a b c k l =
+    record {
+      sound = l .sound;
+      slots-same = l .slots-same ∙ k .slots-same;
+      long = l .long ∙ k .long;
+      only = only-then 4936 5960 (a .session) (b .session) (c .session) (k .only) (l .only);
+      only-disk = only-then 1312 (dataAt (slots (a .disk))) (a .disk) (b .disk) (c .disk) (k .only-disk) (rw (k .slots-same) at (l .only-disk));
+      bytes-session = l .bytes-session;
+      bytes-disk = λ d. l .bytes-disk (k .bytes-disk d);
+    }
 
 -- what each tape's step keeps, the whole keeps
 kept-sweep : (f : ℕ → Areas → Areas) → ((p : ℕ) (a : Areas) → p < 8 → Whole a → Kept a (f p a)) → (a : Areas) → Whole a → Kept a (sweep f 8 0 a)
 kept-sweep f each a w =
     sweep-keeps (Kept a) f 8 0 a
-    (λ p b l h k. kept-then a w b k (f p b) (each p b (omega arith) (whole-kept a w b k)))
+    (λ p b l h k. kept-then a b (f p b) k (each p b (omega arith) (whole-kept a w b k)))
     (kept-none a w)
 
 -- ---- what the files lack

@@ -64,6 +64,41 @@ exists-unique d s t wanted r r′ e f = e ∙ sym f
 entry-some : (i : ℕ) → Entry i ≢ NoEntry
 entry-some i e = let z : _≡_ {A = ℕ} 0 1 = cc in omega arith
 
+-- ---- a read of one that is refused has no entry
+
+-- the refusal that an answer stands for
+abbrev refusalOf : OneEntry → Refusal
+refusalOf (Entry i) = Unusable
+refusalOf NoEntry = OutOfBounds
+refusalOf (One.Refused why) = why
+
+refusal-back : (why : Refusal) → refusalOf (noneFor why) ≡ why
+refusal-back Unusable = refl
+refusal-back Unknown = refl
+refusal-back WriterOpen = refl
+refusal-back (Wait n) = refl
+refusal-back Full = refl
+refusal-back BadName = refl
+refusal-back ReservedName = refl
+refusal-back BadSize = refl
+refusal-back AlreadyOpen = refl
+refusal-back NotWhole = refl
+refusal-back Absent = refl
+refusal-back OutOfBounds = refl
+refusal-back StartPastLength = refl
+refusal-back LongerCut = refl
+refusal-back NoSlot = refl
+refusal-back Missing = refl
+refusal-back BadList = refl
+refusal-back TooLarge = refl
+
+none-entry : (why : Refusal) (i : ℕ) → noneFor why ≢ Entry i
+none-entry why i e =
+    let first : why ≡ Unusable = sym (refusal-back why) ∙ ap refusalOf e in
+    let same : One.Refused Unusable ≡ Entry i = sym (ap noneFor first) ∙ e in
+    let z : _≡_ {A = ℕ} 0 1 = cc in
+    omega arith
+
 -- ---- what holds of each way out holds of the call
 
 -- what a read that is served has found on tape p, as transaction place x sees it
@@ -135,26 +170,33 @@ pub record Poppable (d s : List ℕ) (t h : ℕ) (out : List ℕ) (p : ℕ) : Ty
 abbrev pub popped : List ℕ → ℕ → List ℕ
 popped s p = cutTo s p (last s p * entrySize s p)
 
-module _ (P : Popping → Type 0) (d s : List ℕ) (t h : ℕ) (out : List ℕ) (no : (a : OneEntry) → P (popping a s out)) where
+-- a pop that changes nothing has no entry
+module _ (P : Popping → Type 0) (d s : List ℕ) (t h : ℕ) (out : List ℕ) (no : (a : OneEntry) → ((i : ℕ) → a ≢ Entry i) → P (popping a s out)) where
   pub pop-cases : ((p : ℕ) → Poppable d s t h out p → P (popping (Entry (last s p)) (popped s p) (filled d s p (last s p) 1 out))) → P (popCall d s t h out)
   unfolding popCall popOn popAt
   pop-cases goes =
       picked P (usable d s) _ _
-      (λ ok. picked P (cuts s t) _ _ (λ w. on ok w (findHandle s h) refl) (λ w. no (One.Refused Unknown)))
-      (λ ok. no (One.Refused Unusable))
+      (λ ok. picked P (cuts s t) _ _ (λ w. on ok w (findHandle s h) refl) (λ w. refused Unknown))
+      (λ ok. refused Unusable)
     where
+      refused : (why : Refusal) → P (popping (One.Refused why) s out)
+      refused why = no (One.Refused why) (λ i e. let z : _≡_ {A = ℕ} 0 1 = cc in omega arith)
+
+      nothing : P (popping NoEntry s out)
+      nothing = no NoEntry (λ i e. entry-some i (sym e))
+
       on : usable d s ≡ true → cuts s t ≡ true → (q : Found) → findHandle s h ≡ q → P (popIn d s out q)
       on ok w (At p) e =
           picked P (seenBy s 16 p .listed) _ _
           (λ l.
           picked P (eqb (seenBy s 16 p .len / entrySize s p) 0) _ _
-          (λ z. no NoEntry)
+          (λ z. nothing)
           (λ z.
           let none = eqb-false (seenBy s 16 p .len / entrySize s p) 0 z in
-          read-on-cases (λ (o : Reading). P (cutAt s p (last s p) (o .buffer) (o .answer))) d s (last s p) 1 out (λ why. no (noneFor why)) 16 p
+          read-on-cases (λ (o : Reading). P (cutAt s p (last s p) (o .buffer) (o .answer))) d s (last s p) 1 out (λ why. no (noneFor why) (none-entry why)) 16 p
           (λ g. goes p (record { sound = ok; writer = w; found = e; some = none; inside = g }))))
-          (λ l. no NoEntry)
-      on ok w Nothing e = no (One.Refused Unknown)
+          (λ l. nothing)
+      on ok w Nothing e = refused Unknown
 
 -- ---- a call that has found all is served
 
@@ -211,38 +253,12 @@ module _ (d s : List ℕ) (t h : ℕ) (out : List ℕ) where
   Kept o = (o .session ≡ s) × (o .buffer ≡ out)
 
   pub pop-refused : entryCodeOf (popCall d s t h out .answer) ≢ 0 → (popCall d s t h out .session ≡ s) × (popCall d s t h out .buffer ≡ out)
-  pop-refused = pop-cases (λ (o : Popping). entryCodeOf (o .answer) ≢ 0 → Kept o) d s t h out (λ a r. (refl, refl)) (λ p g r. absurd (r refl))
+  pop-refused = pop-cases (λ (o : Popping). entryCodeOf (o .answer) ≢ 0 → Kept o) d s t h out (λ a none r. (refl, refl)) (λ p g r. absurd (r refl))
 
   pub pop-none : popCall d s t h out .answer ≡ NoEntry → (popCall d s t h out .session ≡ s) × (popCall d s t h out .buffer ≡ out)
-  pop-none = pop-cases (λ (o : Popping). o .answer ≡ NoEntry → Kept o) d s t h out (λ a r. (refl, refl)) (λ p g r. absurd (entry-some (last s p) r))
+  pop-none = pop-cases (λ (o : Popping). o .answer ≡ NoEntry → Kept o) d s t h out (λ a none r. (refl, refl)) (λ p g r. absurd (entry-some (last s p) r))
 
 -- ---- "Reading one entry answers none for 12 only"
-
--- the refusal that an answer stands for; no refused read has an entry
-abbrev refusalOf : OneEntry → Refusal
-refusalOf (Entry i) = Unusable
-refusalOf NoEntry = OutOfBounds
-refusalOf (One.Refused why) = why
-
-refusal-back : (why : Refusal) → refusalOf (noneFor why) ≡ why
-refusal-back Unusable = refl
-refusal-back Unknown = refl
-refusal-back WriterOpen = refl
-refusal-back (Wait n) = refl
-refusal-back Full = refl
-refusal-back BadName = refl
-refusal-back ReservedName = refl
-refusal-back BadSize = refl
-refusal-back AlreadyOpen = refl
-refusal-back NotWhole = refl
-refusal-back Absent = refl
-refusal-back OutOfBounds = refl
-refusal-back StartPastLength = refl
-refusal-back LongerCut = refl
-refusal-back NoSlot = refl
-refusal-back Missing = refl
-refusal-back BadList = refl
-refusal-back TooLarge = refl
 
 pub none-only : (d s : List ℕ) (t h i : ℕ) (out : List ℕ) → entryCall d s t h i out .answer ≡ NoEntry → readCall d s t h i 1 out .answer ≡ Refused OutOfBounds
 unfolding entryCall
@@ -314,12 +330,12 @@ length-entry d s t h i out = length-read d s t h i 1 out
 
 pub length-pop : (d s : List ℕ) (t h : ℕ) (out : List ℕ) → length (popCall d s t h out .buffer) ≡ length out
 length-pop d s t h out =
-    pop-cases (λ (o : Popping). length (o .buffer) ≡ length out) d s t h out (λ a. refl)
+    pop-cases (λ (o : Popping). length (o .buffer) ≡ length out) d s t h out (λ a none. refl)
     (λ p g. length-put out 0 (served d s p (last s p * entrySize s p) (1 * entrySize s p)))
 
 -- ---- the layout rule is kept
 
 pub begun-pop : (d s : List ℕ) (t h : ℕ) (out : List ℕ) → begun s ≡ true → begun (popCall d s t h out .session) ≡ true
 begun-pop d s t h out b =
-    pop-cases (λ (o : Popping). begun (o .session) ≡ true) d s t h out (λ a. b)
+    pop-cases (λ (o : Popping). begun (o .session) ≡ true) d s t h out (λ a none. b)
     (λ p g. →begun _ (begun-cutTo s (begun→ s b) p (handle-found s h p (g .found) .low) (last s p * entrySize s p)))

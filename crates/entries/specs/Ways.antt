@@ -1,5 +1,5 @@
 -- The ways out of each function, in the code's order: a law for each. Assumes nothing.
-use mathlib.Core.Path.{_≡_, ap}
+use mathlib.Core.Path.{_≡_}
 use mathlib.Core.Logic.{_≢_}
 use mathlib.Core.Bool.{true, false}
 use mathlib.Core.List.{List}
@@ -19,9 +19,8 @@ use Rattle.components.specs.Bounds.{inBounds}
 use Rattle.layout.specs.Names.{findName}
 use Rattle.layout.specs.Session.{namesAt, entrySize}
 use Rattle.metadata.specs.Name.{nameRule}
-use Rattle.session.specs.Rows.{handleOf, findTransaction, findHandle}
+use Rattle.session.specs.Rows.{findTransaction, findHandle}
 use Rattle.session.specs.declared.views.View.{View}
-use Rattle.session.specs.declared.tape_rows.Handle.{Handle}
 use Rattle.cached_tape.specs.Serving.{canServe, served}
 use Rattle.beginning.specs.Transactions.{usable}
 use Rattle.staging.specs.Seeing.{writes, cuts, seenBy}
@@ -29,13 +28,6 @@ use Rattle.staging.specs.Cutting.{cutTo}
 use Rattle.entries.specs.Reads.{serveOn, readOn, readCall, noneFor, oneOf, entryCall}
 use Rattle.entries.specs.Popping.{popAt, popOn, popCall}
 use Rattle.entries.specs.Existing.{sees, existsCall}
-
--- ---- what was found before
-
--- the entry size of a handle that was read
-pub handle-entry : (s : List ℕ) (p : ℕ) (h : Handle) → h ≡ handleOf s p → h .entry ≡ entrySize s p
-unfolding handleOf
-handle-entry s p h e = ap (λ (x : Handle). x .entry) e
 
 -- ---- bytes that lie in bounds, by the entry size that the code reads
 

@@ -11,7 +11,7 @@ use lib.ListN.{length, getD, length-drop, List·getD-append}
 use lib.Seq.{getD-append-add, getD-drop}
 use Rattle.octets.specs.Cases.{picked, order}
 use Rattle.ring_buffer.specs.declared.bookkeeping.RingBuffer.{RingBuffer}
-use Rattle.ring_buffer.specs.Ring.{nth, ringAt, around, over, pushed, prepared}
+use Rattle.ring_buffer.specs.Ring.{nth, ringAt, over, pushed, prepared}
 use Rattle.ring_buffer.specs.Ring as R
 use Rattle.ring_buffer.specs.RingLaws.{length-nths, sound-prepared, push-old, push-new, sound-push, first-pushed}
 use Rattle.ring_buffer.specs.Put.{fills, pushesOut, lastOf, goBy, afterPut, bytesAfterPut, unwrittenOf, sent, unwrittenAfter, last-fits}
@@ -97,12 +97,9 @@ module _ (fs : ℕ) (z : 0 < fs) (h : Held) (L W : ℕ) (d : List ℕ) (s : Soun
 
 -- ---- the cache
 
--- the ring, and its bytes, after a put that needs no preparation
+-- the ring after a put that needs no preparation
 abbrev after : RingBuffer → List ℕ → RingBuffer
 after r d = pushed r (length (lastOf r d)) (goBy r d)
-
-abbrev bytesAfter : RingBuffer → (bytes d : List ℕ) → List ℕ
-bytesAfter r bytes d = around (r .capacity) bytes (r .start + r .len) (lastOf r d)
 
 -- a ring that ends where the tape ends
 module _ (r : RingBuffer) (bytes d : List ℕ) (W : ℕ) (sound : R.Sound r (length bytes)) (ends : r .first + r .len ≡ W) (small : W + length d < 2 ^ 64) where
@@ -123,7 +120,8 @@ module _ (r : RingBuffer) (bytes d : List ℕ) (W : ℕ) (sound : R.Sound r (len
   none-after e = (omega (arith, len-after, sound .inside), omega (arith, len-after, last-count, sound .inside))
 
   -- an older byte that is still behind the first index
-  ring-old : (o : ℕ) → o < W → after r d .first ≤ o → (r .first ≤ o) × (ringAt (after r d) (bytesAfter r bytes d) o ≡ ringAt r bytes o)
+  ring-old : (o : ℕ) → o < W → after r d .first ≤ o → (r .first ≤ o) × (ringAt (after r d) (bytesAfterPut r bytes d) o ≡ ringAt r bytes o)
+  unfolding bytesAfterPut
   ring-old o b q =
       let f = first-after in
       let n = last-count in
@@ -133,7 +131,8 @@ module _ (r : RingBuffer) (bytes d : List ℕ) (W : ℕ) (sound : R.Sound r (len
       (omega arith, v ∙ ap (λ (j : ℕ). nth r bytes j) m)
 
   -- a put byte
-  ring-new : (i : ℕ) → i < length d → after r d .first ≤ W + i → ringAt (after r d) (bytesAfter r bytes d) (W + i) ≡ getD d i 0
+  ring-new : (i : ℕ) → i < length d → after r d .first ≤ W + i → ringAt (after r d) (bytesAfterPut r bytes d) (W + i) ≡ getD d i 0
+  unfolding bytesAfterPut
   ring-new i b q =
       let f = first-after in
       let n = last-count in

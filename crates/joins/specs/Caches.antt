@@ -2,7 +2,7 @@
 -- Assumes nothing.
 use mathlib.Core.Path.{_≡_, refl, sym, ap, _∙_, fun-ext}
 use mathlib.Core.Logic.{_≢_}
-use mathlib.Core.Bool.{true, cond}
+use mathlib.Core.Bool.{cond}
 use mathlib.Core.List.{List}
 use Prim.Native.Nat.{ℕ, _+_, _-_, _≤_, _<_, _^_}
 use native.Mathlib.Omega.{arith}
@@ -16,7 +16,7 @@ use Rattle.octets.specs.Only.{OnlyIn}
 use Rattle.disk.specs.Meaning.{diskOf}
 use Rattle.layout.specs.Disk.{Sound}
 use Rattle.layout.specs.Session.{headAt, handleNumber, ringLen, Begun}
-use Rattle.ring_buffer.specs.Ring.{fresh, resetTo, prepared, popped, truncated, Sound as RingSound}
+use Rattle.ring_buffer.specs.Ring.{fresh, resetTo, prepared, popped, truncated}
 use Rattle.ring_buffer.specs.Put.{fills, pushesOut, lastOf, afterPut, bytesAfterPut, unwrittenAfter}
 use Rattle.ring_buffer.specs.declared.bookkeeping.RingBuffer.{RingBuffer}
 use Rattle.session.specs.Meaning.{Session, untouched, sessionOf, withHead, withHandle, withRing, withCache, withStaged}
@@ -24,17 +24,15 @@ use Rattle.session.specs.MeaningLaws.{Ready, same-session, head-at, handle-at, 
 use Rattle.session.specs.Rows.{headOf, handleOf, ringOf, stagedOf, ringBytes, putRing, putStaged, putHandle, pushRing, fillRing}
 use Rattle.session.specs.RowLaws.{HeadFits, RingNumbers, StagedFits}
 use Rattle.session.specs.KeepLaws.{begun-ready, ring-sound}
-use Rattle.session.specs.declared.head.Head.{Head}
-use Rattle.session.specs.declared.tape_rows.Handle.{Handle}
 use Rattle.session.specs.declared.tape_rows.Staged.{Staged}
 use Rattle.session.specs.declared.tracking.Tracking.{Tracking}
 use Rattle.rolling_tape.specs.Files.{filesOf}
 use Rattle.rolling_tape.specs.Removal.{Areas}
 use Rattle.cached_tape.specs.Filling.{filledWith}
-use Rattle.cached_tape.specs.FlushLaws.{begun-kept, ring-kept, ringBytes-kept, staged-kept, handle-kept, number-kept}
+use Rattle.cached_tape.specs.FlushLaws.{begun-kept, ring-kept, ringBytes-kept, staged-kept, number-kept}
 use Rattle.cached_tape.specs.Putting.{sentTo, cachedIn, grown, putIn}
 use Rattle.cached_tape.specs.PutLaws.{ring-numbers, kept-sent}
-use Rattle.opening.specs.Calls.{cachedFrom, nextHandle, rowed}
+use Rattle.opening.specs.Calls.{cachedFrom, nextHandle, rowStaged, rowHandle, handed, rowed}
 use Rattle.opening.specs.RowedLaws.{RowFits}
 use Rattle.opening.specs.declared.shape.Opening.{Opening}
 use Rattle.ending.specs.CutLaws.{untouched-fits}
@@ -134,14 +132,13 @@ module _ (s : List ℕ) (begun : Begun s) (p : ℕ) (low : p < 8) (held : handle
       let u = pushRing s p (prepared r len) (lastOf r bs) in
       ready-putRing u p (afterPut r len bs) (ready-pushRing s p (prepared r len) (lastOf r bs) (begun-ready s begun) low) low
 
--- what a put through the cache leaves: of the rows only tape p's change, and the tracking is that of what went to the files
+-- what a put through the cache leaves: tape p's row and its bytes, the rings and staged records of the others, and the files as what went to them made
+-- them; `put-becomes` has the rest
 pub record PutsIn (a : Areas) (place p : ℕ) (row : Staged) (bs : List ℕ) : Type 0 where
   pub ring : ringOf (putIn a place p row bs .session) p ≡ afterPut (ringOf (a .session) p) (row .len) bs
   pub cache : ringBytes (putIn a place p row bs .session) p ≡ bytesAfterPut (ringOf (a .session) p) (ringBytes (a .session) p) bs
   pub staged : stagedOf (putIn a place p row bs .session) p ≡ grown row (ringOf (a .session) p) (length bs)
   pub others : (q : ℕ) → q < 8 → q ≢ p → AsBefore (a .session) (putIn a place p row bs .session) q
-  pub handles : (q : ℕ) → q < 8 → handleOf (putIn a place p row bs .session) q ≡ handleOf (a .session) q
-  pub tracking : sessionOf (putIn a place p row bs .session) .tracking ≡ sessionOf (sentTo a place p row bs .session) .tracking
   pub disk : putIn a place p row bs .disk ≡ sentTo a place p row bs .disk
   pub files : (q : ℕ) → filesAt (putIn a place p row bs) q ≡ filesAt (sentTo a place p row bs) q
 
@@ -163,7 +160,7 @@ module _ (a : Areas) (place p : ℕ) (row : Staged) (bs : List ℕ) (sound : Sou
       record { base = base; len = fits; start = start; unwritten = omega (arith, unwritten-small r (row .unwritten) (length bs), ring .small) }
 
   -- over the session once the files have what goes to them
-  put-becomes : Becomes then (putIn a place p row bs .session) p (afterPut r (row .len) bs) (bytesAfterPut r (ringBytes (a .session) p) bs) (grown row r (length bs))
+  pub put-becomes : Becomes then (putIn a place p row bs .session) p (afterPut r (row .len) bs) (bytesAfterPut r (ringBytes (a .session) p) bs) (grown row r (length bs))
   unfolding putIn
   put-becomes =
       let begun-then = begun-kept (a .session) then only begun in
@@ -188,8 +185,6 @@ module _ (a : Areas) (place p : ℕ) (row : Staged) (bs : List ℕ) (sound : Sou
               cache = b .others q l d .cache ∙ ringBytes-kept (a .session) then only q;
               staged = b .others q l d .staged ∙ staged-kept (a .session) then only q l;
             };
-        handles = λ q l. b .handles q l ∙ handle-kept (a .session) then only q l;
-        tracking = b .tracking;
         disk = refl;
         files = λ q. ap (λ (t : ℕ → Tracking). filesOf (diskOf (sentTo a place p row bs .disk)) t q) (b .tracking);
       }
@@ -214,37 +209,19 @@ module _ (s : List ℕ) (ready : Ready s) (p : ℕ) (low : p < 8) (capacity firs
 
 -- ---- the row of a tape that is opened
 
-abbrev pub rowStaged : Opening → Staged
-rowStaged o = record { touched = true; base = o .len; len = o .len; start = o .start; unwritten = 0 }
-
-abbrev pub rowHandle : List ℕ → Opening → Handle
-rowHandle s o = record { number = nextHandle s; entry = o .entry; «file_size» = o .«file_size» }
-
-abbrev pub rowHead : List ℕ → Head
-rowHead s =
-    record {
-      epoch = headOf s .epoch;
-      cut = headOf s .cut;
-      side = headOf s .side;
-      «last_transaction» = headOf s .«last_transaction»;
-      «last_handle» = nextHandle s;
-    }
-
 -- the session's meaning then
 abbrev pub rowedAs : List ℕ → ℕ → Opening → List ℕ → Session
 rowedAs s p o bs =
     withHead
     (withHandle (withTape (sessionOf s) p (resetTo (fresh (o .cache) (cachedFrom o)) (length bs) (cachedFrom o)) (put (ringBytes s p) 0 bs) (rowStaged o)) p (rowHandle s o))
-    (rowHead s)
+    (handed (headOf s))
 
 pub record RowsIn (s : List ℕ) (p : ℕ) (o : Opening) (bs : List ℕ) : Type 0 where
   pub ring : ringOf (rowed s p o bs) p ≡ resetTo (fresh (o .cache) (cachedFrom o)) (length bs) (cachedFrom o)
   pub cache : ringBytes (rowed s p o bs) p ≡ put (ringBytes s p) 0 bs
   pub staged : stagedOf (rowed s p o bs) p ≡ rowStaged o
   pub handle : handleOf (rowed s p o bs) p ≡ rowHandle s o
-  pub head : headOf (rowed s p o bs) ≡ rowHead s
-  pub others : (q : ℕ) → q < 8 → q ≢ p → AsBefore s (rowed s p o bs) q
-  pub other-handles : (q : ℕ) → q < 8 → q ≢ p → handleOf (rowed s p o bs) q ≡ handleOf s q
+  pub head : headOf (rowed s p o bs) ≡ handed (headOf s)
   pub tracking : sessionOf (rowed s p o bs) .tracking ≡ sessionOf s .tracking
   pub whole : sessionOf (rowed s p o bs) ≡ rowedAs s p o bs
 
@@ -259,7 +236,7 @@ module _ (s : List ℕ) (ready : Ready s) (bytes : Bytes s) (p : ℕ) (low : p <
   abbrev handle-in : List ℕ
   handle-in = putHandle staged-in p (rowHandle s o)
 
-  head-fits : HeadFits (rowHead s)
+  head-fits : HeadFits (handed (headOf s))
   unfolding headOf
   head-fits = record { epoch = numAt-lt 8 s headAt bytes; transaction = numAt-lt 8 s (headAt + 24) bytes; handle = more }
 
@@ -271,8 +248,8 @@ module _ (s : List ℕ) (ready : Ready s) (bytes : Bytes s) (p : ℕ) (low : p <
       let few : length bs ≤ 4096 = omega (arith, fits .within, fits .cache-small) in
       let filled = filled-ready s ready p low (o .cache) (cachedFrom o) bs small below few in
       let row = ready-putStaged ring-in p (rowStaged o) filled low in
-      session-putHead handle-in (rowHead s) (ready-putHandle staged-in p (rowHandle s o) row low) head-fits
-      ∙ ap (λ (m : Session). withHead m (rowHead s))
+      session-putHead handle-in (handed (headOf s)) (ready-putHandle staged-in p (rowHandle s o) row low) head-fits
+      ∙ ap (λ (m : Session). withHead m (handed (headOf s)))
       (session-putHandle staged-in p (rowHandle s o) row low (record { number = more; entry = omega (arith, fits .entry-small); file = omega (arith, fits .file-small) })
       ∙ ap (λ (m : Session). withHandle m p (rowHandle s o))
       (session-putStaged ring-in p (rowStaged o) filled low (record { base = len; len = len; start = start; unwritten = omega arith })
@@ -290,14 +267,6 @@ module _ (s : List ℕ) (ready : Ready s) (bytes : Bytes s) (p : ℕ) (low : p <
         staged = sym (staged-at t p low) ∙ ap (λ (m : Session). m .staged p) e ∙ with-here (sessionOf s .staged) p (rowStaged o);
         handle = sym (handle-at t p low) ∙ ap (λ (m : Session). m .handle p) e ∙ with-here (sessionOf s .handle) p (rowHandle s o);
         head = sym (head-at t) ∙ ap (λ (m : Session). m .head) e;
-        others = λ q l d.
-            record {
-              ring = sym (ring-at t q l) ∙ ap (λ (m : Session). m .ring q) e ∙ with-apart (sessionOf s .ring) p new q d ∙ ring-at s q l;
-              cache = sym (cache-at t q l) ∙ ap (λ (m : Session). m .cache q) e ∙ with-apart (sessionOf s .cache) p now q d ∙ cache-at s q l;
-              staged = sym (staged-at t q l) ∙ ap (λ (m : Session). m .staged q) e ∙ with-apart (sessionOf s .staged) p (rowStaged o) q d ∙ staged-at s q l;
-            };
-        other-handles = λ q l d.
-            sym (handle-at t q l) ∙ ap (λ (m : Session). m .handle q) e ∙ with-apart (sessionOf s .handle) p (rowHandle s o) q d ∙ handle-at s q l;
         tracking = ap (λ (m : Session). m .tracking) e;
         whole = e;
       }

@@ -2,20 +2,20 @@
 -- meaning; the last section brings it to the bytes. Assumes nothing.
 use mathlib.Core.Path.{_≡_, refl, sym, ap, fun-ext, _∙_}
 use mathlib.Core.Logic.{_≢_}
-use mathlib.Core.Bool.{Bool, true, false, cond, not, _&&_, true≢false}
+use mathlib.Core.Bool.{Bool, true, false, cond, not, true≢false}
 use mathlib.Core.List.{List}
-use Prim.Native.Nat.{ℕ, zero, suc, _+_, _≤_, _<_}
+use Prim.Native.Nat.{ℕ, _+_, _≤_, _<_}
 use native.Mathlib.Omega.{arith}
 use borrow.Author.Tests.{eqb-true, ne-eqb}
 use lib.Dec.{eqb}
-use Rattle.octets.specs.First.{first, first-same, first-never, first-at, first-hits, first-misses, count}
+use Rattle.octets.specs.First.{first, first-same, first-never, first-at, first-hits, first-misses, count-within}
 use Rattle.octets.specs.Cases.{decide, and-l, and-r}
 use Rattle.octets.specs.declared.Found.{Found}
 use Rattle.octets.specs.declared.Found.the-variants.{At, Nothing}
 use Rattle.layout.specs.Disk.{slots, owner}
 use Rattle.disk.specs.Meaning.{Slot, Disk, free, diskOf, slotWith, fileCount}
 use Rattle.disk.specs.MeaningLaws.{owner-in, number-in, slots-in, find-slot, files-count}
-use Rattle.disk.specs.FileLaws.{with-low, with-is}
+use Rattle.disk.specs.FileLaws.{has, with-low, with-is}
 use Rattle.components.specs.Files.{Files}
 use Rattle.session.specs.Meaning.{sessionOf}
 use Rattle.session.specs.declared.tracking.Tracking.{Tracking}
@@ -24,20 +24,6 @@ use Rattle.rolling_tape.specs.Files.{filesOf, file-in, file-out}
 use Rattle.rolling_tape.specs.Removal.{Areas}
 use Rattle.joins.specs.FilesAt.{filesAt, Once}
 use Rattle.joins.specs.Tracks.{Changed}
-
--- a test that holds wherever another does counts as many or more
-count-less : (p q : ℕ → Bool) (k i : ℕ) → ((j : ℕ) → i ≤ j → j < i + k → p j ≡ true → q j ≡ true) → count p k i ≤ count q k i
-unfolding count
-count-less p q zero i h = omega arith
-count-less p q (suc k) i h =
-    let rest : count p k (i + 1) ≤ count q k (i + 1) = count-less p q k (i + 1) (λ j l u. h j (omega arith) (omega arith)) in
-    decide (p i)
-    (λ (e : p i ≡ true). rw (e, h i (omega arith) (omega arith) e) (omega arith))
-    (λ (e : p i ≡ false). rw e (omega arith))
-
--- slot i has file k of the directory in a place
-abbrev pub has : Disk → ℕ → ℕ → ℕ → Bool
-has m place k i = eqb (m .slot i .owner) (place + 1) && eqb (m .slot i .number) k
 
 -- ---- each file in one slot
 
@@ -179,7 +165,7 @@ module _ (m n : Disk) (place : ℕ) (goes : ℕ → Bool) (freed : Freed m n pla
   pub count-freed : fileCount n ≤ fileCount m
   count-freed =
       rw (freed .same)
-      (count-less (λ i. not (eqb (n .slot i .owner) 0)) (λ i. not (eqb (m .slot i .owner) 0)) (m .slots) 0
+      (count-within (λ i. not (eqb (m .slot i .owner) 0)) (λ i. not (eqb (n .slot i .owner) 0)) (m .slots) 0
       (λ i l h t.
       let low : i < m .slots = omega arith in
       decide (goes i)

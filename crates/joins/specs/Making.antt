@@ -9,6 +9,7 @@ use native.Mathlib.Omega.{arith}
 use borrow.Author.Tests.{eq-eqb}
 use Rattle.octets.specs.Number.{Bytes}
 use Rattle.octets.specs.Only.{numAt-only}
+use Rattle.octets.specs.Words.{with-row}
 use Rattle.octets.specs.First.{first-misses, count}
 use Rattle.octets.specs.Cases.{decide, equal}
 use Rattle.octets.specs.declared.Found.{Found}
@@ -39,7 +40,7 @@ use Rattle.rolling_tape.specs.Writing.{makeTracked}
 use Rattle.rolling_tape.specs.WritingWays.{tracked-made, track-kept, track-new}
 use Rattle.joins.specs.FilesAt.{filesAt, Once}
 use Rattle.joins.specs.Covers.{reached, reached-kept}
-use Rattle.joins.specs.Slots.{withRow, tracks-own, tracks-other, made-found, made-else, files-else, tracking-new}
+use Rattle.joins.specs.Slots.{tracks-own, tracks-other, made-found, made-else, files-else, tracking-new}
 
 -- ---- searches
 
@@ -219,13 +220,13 @@ module _ (d s : List ℕ) (place n : ℕ) (sound : Sound d) (begun : Begun s) (b
         rw same
         (record {
           own = ap (λ (t : ℕ → Tracking). filesOf (diskOf new) t place) there
-              ∙ ap (λ (x : Disk). filesOf x (withRow (changedIn x place c rows) i Tracked) place) now
+              ∙ ap (λ (x : Disk). filesOf x (with-row (changedIn x place c rows) i Tracked) place) now
               ∙ tracks-own (withSlot m i (newFile place n)) rows place n i found (filesAt a place)
               (λ k h. files-else m place n i no-slot room-in was-free rows place k (λ _. h))
               (ap (λ (f : File). f .tracked) was) (ap (λ (f : File). f .bytes) was ∙ rw (eq-eqb i i refl));
           other = λ q h.
               ap (λ (t : ℕ → Tracking). filesOf (diskOf new) t q) there
-              ∙ ap (λ (x : Disk). filesOf x (withRow (changedIn x place c rows) i Tracked) q) now
+              ∙ ap (λ (x : Disk). filesOf x (with-row (changedIn x place c rows) i Tracked) q) now
               ∙ fun-ext
               (λ (k : ℕ).
               tracks-other (withSlot m i (newFile place n)) rows place n i found q k h

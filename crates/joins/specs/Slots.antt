@@ -2,14 +2,14 @@
 -- and of the others. Assumes nothing.
 use mathlib.Core.Path.{_≡_, refl, sym, ap, _∙_, fun-ext}
 use mathlib.Core.Logic.{_≢_}
-use mathlib.Core.Bool.{Bool, false, cond, _&&_}
+use mathlib.Core.Bool.{false, cond, _&&_}
 use mathlib.Core.List.{List}
 use Prim.Native.Nat.{ℕ, _+_, _≤_, _<_}
 use native.Mathlib.Omega.{arith}
 use borrow.Author.Tests.{eq-eqb, ne-eqb, lt-ltb, le-ltb}
 use lib.Dec.{eqb, ltb}
 use Rattle.octets.specs.Number.{Bytes}
-use Rattle.octets.specs.Words.{table-out}
+use Rattle.octets.specs.Words.{with-row, table-out}
 use Rattle.octets.specs.First.{first-same, first-at, first-misses}
 use Rattle.octets.specs.Cases.{order, equal}
 use Rattle.octets.specs.declared.Found.{Found}
@@ -19,7 +19,7 @@ use Rattle.layout.specs.Disk.{slots}
 use Rattle.layout.specs.Session.{Begun}
 use Rattle.disk.specs.Meaning.{Slot, Disk, free, slotOf, slotWith, diskOf, withSlot}
 use Rattle.disk.specs.MeaningLaws.{owner-in, number-in}
-use Rattle.disk.specs.FileLaws.{with-is, newFile}
+use Rattle.disk.specs.FileLaws.{has, with-is, newFile}
 use Rattle.session.specs.Rows.{putTracking}
 use Rattle.session.specs.KeepLaws.{begun-ready}
 use Rattle.session.specs.Meaning.{Session, sessionOf}
@@ -35,29 +35,26 @@ use Rattle.joins.specs.Covers.{reached, reached-own, reached-other}
 
 -- ---- a slot's tracking set
 
-abbrev pub withRow : (ℕ → Tracking) → ℕ → Tracking → ℕ → Tracking
-withRow t i r j = cond (eqb j i) r (t j)
-
 module _ (m : Disk) (t : ℕ → Tracking) (i : ℕ) (r : Tracking) (q k : ℕ) where
   -- the file of another slot
-  row-other : (slotWith m q k ≡ At i → ⊥) → filesOf m (withRow t i r) q k ≡ filesOf m t q k
+  row-other : (slotWith m q k ≡ At i → ⊥) → filesOf m (with-row t i r) q k ≡ filesOf m t q k
   row-other apart = by (slotWith m q k) refl
     where
-      by : (found : Found) → slotWith m q k ≡ found → filesOf m (withRow t i r) q k ≡ filesOf m t q k
+      by : (found : Found) → slotWith m q k ≡ found → filesOf m (with-row t i r) q k ≡ filesOf m t q k
       by (At j) e =
-          let other : withRow t i r j ≡ t j = rw (ne-eqb j i (λ (same : j ≡ i). apart (e ∙ ap At same))) in
-          file-in m (withRow t i r) q k j e ∙ ap (fileWith (m .slot j .bytes)) other ∙ sym (file-in m t q k j e)
-      by Nothing e = file-out m (withRow t i r) q k e ∙ sym (file-out m t q k e)
+          let other : with-row t i r j ≡ t j = rw (ne-eqb j i (λ (same : j ≡ i). apart (e ∙ ap At same))) in
+          file-in m (with-row t i r) q k j e ∙ ap (fileWith (m .slot j .bytes)) other ∙ sym (file-in m t q k j e)
+      by Nothing e = file-out m (with-row t i r) q k e ∙ sym (file-out m t q k e)
 
-  row-own : slotWith m q k ≡ At i → filesOf m (withRow t i r) q k ≡ fileWith (m .slot i .bytes) r
+  row-own : slotWith m q k ≡ At i → filesOf m (with-row t i r) q k ≡ fileWith (m .slot i .bytes) r
   row-own e =
-      let own : withRow t i r i ≡ r = rw (eq-eqb i i refl) in
-      file-in m (withRow t i r) q k i e ∙ ap (fileWith (m .slot i .bytes)) own
+      let own : with-row t i r i ≡ r = rw (eq-eqb i i refl) in
+      file-in m (with-row t i r) q k i e ∙ ap (fileWith (m .slot i .bytes)) own
 
 -- slot i has file n of the directory, untracked so far: with it tracked and those above untracked, its number is reached
 module _ (m : Disk) (t : ℕ → Tracking) (place n i : ℕ) (e : slotWith m place n ≡ At i) where
   abbrev tracks : ℕ → Tracking
-  tracks = withRow (changedIn m place (UntrackAbove n) t) i Tracked
+  tracks = with-row (changedIn m place (UntrackAbove n) t) i Tracked
 
   not-its-slot : (q k : ℕ) → (q ≡ place → k ≢ n) → slotWith m q k ≡ At i → ⊥
   not-its-slot q k apart h =
@@ -88,9 +85,6 @@ module _ (m : Disk) (t : ℕ → Tracking) (place n i : ℕ) (e : slotWith m pla
 module _ (m : Disk) (place n i : ℕ) (missing : slotWith m place n ≡ Nothing) (low : i < m .slots) (was-free : m .slot i .owner ≡ 0) where
   abbrev withFile : Disk
   withFile = withSlot m i (newFile place n)
-
-  abbrev has : Disk → ℕ → ℕ → ℕ → Bool
-  has d q k j = eqb (d .slot j .owner) (q + 1) && eqb (d .slot j .number) k
 
   pub made-found : slotWith withFile place n ≡ At i
   made-found =
@@ -149,11 +143,11 @@ retracks-in d place c t =
 -- those above untracked, and a slot's file tracked
 pub tracking-new : (d s : List ℕ) (place n i : ℕ) → slots d ≤ 64 → Begun s → Bytes s → i < 64
     → sessionOf (putTracking (retracked d s place (UntrackAbove n)) i Tracked) .tracking
-    ≡ withRow (changedIn (diskOf d) place (UntrackAbove n) (sessionOf s .tracking)) i Tracked
+    ≡ with-row (changedIn (diskOf d) place (UntrackAbove n) (sessionOf s .tracking)) i Tracked
 tracking-new d s place n i few begun bytes low =
     let above = retracked d s place (UntrackAbove n) in
     let ready = begun-ready s begun in
     let ready′ = ready-only 4936 5960 s above (only-retracked d s place (UntrackAbove n) few) (λ l. omega arith) ready in
     ap (λ (m : Session). m .tracking) (session-putTracking above i Tracked ready′ low (record { epoch = omega arith }))
-    ∙ ap (λ (m : Session). withRow (m .tracking) i Tracked) (session-retracked d s place (UntrackAbove n) few ready bytes (record { epoch = omega arith }))
-    ∙ ap (λ (t : ℕ → Tracking). withRow t i Tracked) (retracks-in d place (UntrackAbove n) (sessionOf s .tracking))
+    ∙ ap (λ (m : Session). with-row (m .tracking) i Tracked) (session-retracked d s place (UntrackAbove n) few ready bytes (record { epoch = omega arith }))
+    ∙ ap (λ (t : ℕ → Tracking). with-row t i Tracked) (retracks-in d place (UntrackAbove n) (sessionOf s .tracking))

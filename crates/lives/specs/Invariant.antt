@@ -20,6 +20,10 @@ pub record Phys : Type 0 where
   pub base : ℕ
   pub held : Held
 
+-- .. once a writer has ended
+abbrev pub settledAs : Phys → ℕ → Held → Phys
+settledAs p base h = record { last = p .last; touched = false; base = base; held = h }
+
 abbrev pub erase : Window → Reader
 erase w = record { number = w .number; epoch = w .epoch; here = w .here; len = length (w .content); start = w .start }
 

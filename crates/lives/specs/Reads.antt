@@ -11,7 +11,7 @@ use Rattle.octets.specs.Cases.{picked, order}
 use Rattle.held.specs.Held.{fetch}
 use Rattle.held.specs.ReadLaws.{Serves, serves, fetch-serves}
 use Rattle.lives.specs.Life.{Store, blank, nothingHeld}
-use Rattle.lives.specs.Told.{Window, Staging, idle, appending, cutting, Told, withWriter, Page, pageIn, pageOf, page, nothing}
+use Rattle.lives.specs.Told.{Window, Staging, idle, appending, cutting, Told, withWriter, Page, pageW, pageIn, pageOf, page, nothing}
 use Rattle.lives.specs.Invariant.{Phys, build, Live, GoodIf, Good}
 
 pub record Tied (s : Store) (t : Told) : Type 0 where
@@ -38,9 +38,6 @@ tied-blank =
     }
 
 -- ---- the page of a transaction
-
-abbrev pageW : Window → Page
-pageW w = record { here = w .here; start = w .start; content = w .content }
 
 find-window : (k : ℕ) (ws : List Window) (q : Page) → pageIn k ws ≡ some q → (w : Window) × List·Memᴰ w ws × (pageW w ≡ q)
 unfolding pageIn

@@ -20,7 +20,7 @@ use Rattle.held.specs.SettleLaws.{settled-kept, settled-mark, settled-sound}
 use Rattle.held.specs.TrimLaws.{trim-held}
 use Rattle.lives.specs.Life.{Writer, After, refuse, committed, epochs, commit, stepCommit}
 use Rattle.lives.specs.Told.{Window, Staging, idle, appending, cutting, Told, withWriter, published}
-use Rattle.lives.specs.Invariant.{Phys, erase, eraseW, build, now, PageHeld, Live, Dormant, Good, Goes, refused, goes, no-taller}
+use Rattle.lives.specs.Invariant.{Phys, settledAs, erase, eraseW, build, now, PageHeld, Live, Dormant, Good, Goes, refused, goes, no-taller}
 use Rattle.lives.specs.StepsBegin.{epoch-counted}
 
 -- a file below those of both offsets is below that of the smaller
@@ -31,9 +31,6 @@ below-min fs k a b u v =
     (λ l. let e : min a b ≡ b = omega arith in rw e v)
 
 module _ (t : Told) (p : Phys) where
-  abbrev settledAs : ℕ → Held → Phys
-  settledAs base h = record { last = p .last; touched = false; base = base; held = h }
-
   -- ---- an append's: h′ is what it leaves, settled if the tape was touched, else as it was
 
   module _ (m : ℕ) (h : Bool) (c : List ℕ) (s : ℕ) where
@@ -44,7 +41,7 @@ module _ (t : Told) (p : Phys) where
       new : Kept (t .size) (h′ .files) s (length c) c
       old : (w : Window) → List·Memᴰ w (t .windows) → Kept (t .size) (h′ .files) (w .start) (length (w .content)) (w .content)
 
-    published-live : Live (withWriter t (appending m h c s) true) p → (h′ : Held) → Left h′ → Live (published (withWriter t idle true) false h c s) (settledAs (length c) h′)
+    published-live : Live (withWriter t (appending m h c s) true) p → (h′ : Held) → Left h′ → Live (published (withWriter t idle true) false h c s) (settledAs p (length c) h′)
     published-live g h′ l =
         let fs = t .size in
         let G = g .staged in
@@ -131,7 +128,7 @@ module _ (t : Told) (p : Phys) where
         picked (Goes u (commit k)) (eqb k m) (X (cond (p .touched) after (p .held))) (refuse 2 0 (build u p))
         (λ e.
         let commits : (h′ : Held) → Left h′ → Goes u (commit k) (X h′) =
-        λ h′ l. goes u (commit k) (X h′) (published (withWriter t idle true) false h c s) (settledAs (length c) h′) (rw e) refl (published-live g h′ l) in
+        λ h′ l. goes u (commit k) (X h′) (published (withWriter t idle true) false h c s) (settledAs p (length c) h′) (rw e) refl (published-live g h′ l) in
         picked (λ (h′ : Held). Goes u (commit k) (X h′)) (p .touched) after (p .held)
         (λ _. commits after (left-settled g))
         (λ q. commits (p .held) (left-alone g q)))
@@ -165,7 +162,7 @@ module _ (t : Told) (p : Phys) where
       λ k x q.
       let (a, v) = tr .marks k x q in
       below-min fs k (t .start) (length c) (g .below k x a) (⊎-elim (λ r. r) (λ r. omega (arith, g .below k x a, file-mono fs (g .pos) (t .start) (length c) (omega (arith, g .bounded)))) v) in
-      goes u (commit k) X (published (withWriter t idle true) true (t .listed) c st) (settledAs (length c) h′)
+      goes u (commit k) X (published (withWriter t idle true) true (t .listed) c st) (settledAs p (length c) h′)
       (rw e) refl
       (record {
         pos = g .pos;
@@ -195,7 +192,7 @@ module _ (t : Told) (p : Phys) where
   abbrev later : Bool → Told
   later b = published (withWriter t idle false) b (t .listed) (t .content) (t .start)
 
-  published-dormant : (x : Staging) (b : Bool) → Dormant (withWriter t x false) p → Dormant (later b) (settledAs (p .base) (p .held))
+  published-dormant : (x : Staging) (b : Bool) → Dormant (withWriter t x false) p → Dormant (later b) (settledAs p (p .base) (p .held))
   published-dormant x b g =
       record {
         pos = g .pos;
@@ -216,7 +213,7 @@ module _ (t : Told) (p : Phys) where
       let X = committed (build u p) false h (length c) s (cond (p .touched) (after m h c s) (p .held)) in
       let (x, y, z) = g .staged in
       picked (Goes u (commit k)) (eqb k m) X (refuse 2 0 (build u p))
-      (λ e. goes u (commit k) X (later false) (settledAs (p .base) (p .held)) (rw (e, x, y, z)) (rw (g .untouched, x, y, z)) (published-dormant (appending m h c s) false g))
+      (λ e. goes u (commit k) X (later false) (settledAs p (p .base) (p .held)) (rw (e, x, y, z)) (rw (g .untouched, x, y, z)) (published-dormant (appending m h c s) false g))
       (λ _. refused u p (commit k) 2 0 g)
   step-commit k (cutting m c) false g =
       let u = withWriter t (cutting m c) false in
@@ -224,5 +221,5 @@ module _ (t : Told) (p : Phys) where
       let y : c ≡ t .content = g .staged in
       let z : min (t .start) (length (t .content)) ≡ t .start = omega (arith, g .bounded) in
       picked (Goes u (commit k)) (eqb k m) X (refuse 2 0 (build u p))
-      (λ e. goes u (commit k) X (later true) (settledAs (p .base) (p .held)) (rw (e, y, z)) (rw (g .untouched, y, z)) (published-dormant (cutting m c) true g))
+      (λ e. goes u (commit k) X (later true) (settledAs p (p .base) (p .held)) (rw (e, y, z)) (rw (g .untouched, y, z)) (published-dormant (cutting m c) true g))
       (λ _. refused u p (commit k) 2 0 g)

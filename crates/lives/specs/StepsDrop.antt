@@ -14,7 +14,7 @@ use Rattle.held.specs.Page.{Sound}
 use Rattle.held.specs.TakeBackLaws.{back-sound, back-ringed}
 use Rattle.lives.specs.Life.{Reader, Writer, Done, refuse, then, find, without, isSome, asleep, drop′, stepDrop, stepDropReader}
 use Rattle.lives.specs.Told.{Window, Staging, idle, appending, cutting, Told, told, closed, withWriter, withWindows}
-use Rattle.lives.specs.Invariant.{Phys, erase, eraseW, build, now, PageHeld, Live, Good, Goes, refused, goes, no-taller, restaged, rested, rewindowed, reslept}
+use Rattle.lives.specs.Invariant.{Phys, settledAs, erase, eraseW, build, now, PageHeld, Live, Good, Goes, refused, goes, no-taller, restaged, rested, rewindowed, reslept}
 
 closed-readers : (k : ℕ) (ws : List Window) → without k (map erase ws) ≡ map erase (closed k ws)
 unfolding without closed
@@ -51,9 +51,6 @@ module _ (t : Told) (p : Phys) where
 
   -- ---- a writer
 
-  abbrev dropped : ℕ → Held → Phys
-  dropped base h = record { last = p .last; touched = false; base = base; held = h }
-
   module _ (m : ℕ) (h : Bool) (c : List ℕ) (s : ℕ) where
     abbrev left : Held
     left = cond (p .touched) (cond (t .listed) (takenBack (length c - length (t .content)) (p .held)) (asleep (p .held))) (p .held)
@@ -64,7 +61,7 @@ module _ (t : Told) (p : Phys) where
       fine : (w : Window) → PageHeld (t .size) (p .held) (t .epoch) (t .cut) (t .content) true w → PageHeld (t .size) h′ (t .epoch) (t .cut) (t .content) false w
       below : (k e : ℕ) → h′ .files k .mark ≡ some e → p .held .files k .mark ≡ some e
 
-    drop-known : Live (withWriter t (appending m h c s) true) p → t .listed ≡ true → (h′ : Held) → Left h′ → Live (withWriter t idle true) (dropped (length (t .content)) h′)
+    drop-known : Live (withWriter t (appending m h c s) true) p → t .listed ≡ true → (h′ : Held) → Left h′ → Live (withWriter t idle true) (settledAs p (length (t .content)) h′)
     drop-known g e h′ l =
         record {
           pos = g .pos;
@@ -109,10 +106,10 @@ module _ (t : Told) (p : Phys) where
           below = λ k x q. q;
         }
 
-    drop-append : Live (withWriter t (appending m h c s) true) p → (b : Bool) → t .listed ≡ b → Good (withWriter t idle b) (dropped (length (t .content)) left)
+    drop-append : Live (withWriter t (appending m h c s) true) p → (b : Bool) → t .listed ≡ b → Good (withWriter t idle b) (settledAs p (length (t .content)) left)
     drop-append g true e =
         let back = takenBack (length c - length (t .content)) (p .held) in
-        let kept : Held → Type 0 = λ x. Live (withWriter t idle true) (dropped (length (t .content)) x) in
+        let kept : Held → Type 0 = λ x. Live (withWriter t idle true) (settledAs p (length (t .content)) x) in
         picked kept (p .touched) (cond (t .listed) back (asleep (p .held))) (p .held)
         (λ _. picked kept (t .listed) back (asleep (p .held)) (λ _. drop-known g e back (left-back g e)) (λ q. absurd (true≢false (sym e ∙ q))))
         (λ q. drop-known g e (p .held) (left-alone g e q))
@@ -135,23 +132,23 @@ module _ (t : Told) (p : Phys) where
       let A = left m h c s in
       let X = then (Done 0) (p .last) (build u p) (map erase (t .windows)) Writer.idle false (t .listed) A in
       picked (Goes u (drop′ k)) (eqb k m) X (stepDropReader (build u p) k)
-      (λ e. goes u (drop′ k) X (withWriter t idle (t .listed)) (dropped (length (t .content)) A) (rw e) refl (drop-append m h c s g (t .listed) refl))
+      (λ e. goes u (drop′ k) X (withWriter t idle (t .listed)) (settledAs p (length (t .content)) A) (rw e) refl (drop-append m h c s g (t .listed) refl))
       (λ e. drop-reader k (appending m h c s) true g (rw e))
   step-drop k (appending m h c s) false g =
       let u = withWriter t (appending m h c s) false in
       let X = then (Done 0) (p .last) (build u p) (map erase (t .windows)) Writer.idle false false (left m h c s) in
       picked (Goes u (drop′ k)) (eqb k m) X (stepDropReader (build u p) k)
-      (λ e. goes u (drop′ k) X (withWriter t idle false) (dropped (p .base) (p .held)) (rw e) (rw (g .untouched)) (rested t p (p .last) false (appending m h c s) idle g refl tt))
+      (λ e. goes u (drop′ k) X (withWriter t idle false) (settledAs p (p .base) (p .held)) (rw e) (rw (g .untouched)) (rested t p (p .last) false (appending m h c s) idle g refl tt))
       (λ e. drop-reader k (appending m h c s) false g (rw e))
   step-drop k (cutting m c) true g =
       let u = withWriter t (cutting m c) true in
       let X = then (Done 0) (p .last) (build u p) (map erase (t .windows)) Writer.idle false true (p .held) in
       picked (Goes u (drop′ k)) (eqb k m) X (stepDropReader (build u p) k)
-      (λ e. goes u (drop′ k) X (withWriter t idle true) (dropped (p .base) (p .held)) (rw e) refl (restaged t p (p .last) false (cutting m c) idle refl refl g tt))
+      (λ e. goes u (drop′ k) X (withWriter t idle true) (settledAs p (p .base) (p .held)) (rw e) refl (restaged t p (p .last) false (cutting m c) idle refl refl g tt))
       (λ e. drop-reader k (cutting m c) true g (rw e))
   step-drop k (cutting m c) false g =
       let u = withWriter t (cutting m c) false in
       let X = then (Done 0) (p .last) (build u p) (map erase (t .windows)) Writer.idle false false (p .held) in
       picked (Goes u (drop′ k)) (eqb k m) X (stepDropReader (build u p) k)
-      (λ e. goes u (drop′ k) X (withWriter t idle false) (dropped (p .base) (p .held)) (rw e) refl (rested t p (p .last) false (cutting m c) idle g refl tt))
+      (λ e. goes u (drop′ k) X (withWriter t idle false) (settledAs p (p .base) (p .held)) (rw e) refl (rested t p (p .last) false (cutting m c) idle g refl tt))
       (λ e. drop-reader k (cutting m c) false g (rw e))

@@ -118,9 +118,13 @@ pub record Page : Type 0 where
   pub start : ℕ
   pub content : List ℕ
 
+-- what a window shows
+abbrev pub pageW : Window → Page
+pageW w = record { here = w .here; start = w .start; content = w .content }
+
 unfoldable pub pageIn : ℕ → List Window → Option Page
 pageIn k [] = none
-pageIn k (w ∷ ws) = cond (eqb k (w .number)) (some (record { here = w .here; start = w .start; content = w .content })) (pageIn k ws)
+pageIn k (w ∷ ws) = cond (eqb k (w .number)) (some (pageW w)) (pageIn k ws)
 
 -- a truncate's view has the staged length and the old start; the smaller is taken at its commit
 abbrev pub pageOf : ℕ → Told → Staging → Option Page

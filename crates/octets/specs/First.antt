@@ -173,12 +173,7 @@ all-split p (suc m) k i =
 
 -- m places at which it holds are passed at once
 pub all-skip : (p : ℕ → Bool) (m k i : ℕ) → ((j : ℕ) → i ≤ j → j < i + m → p j ≡ true) → all p (m + k) i ≡ all p k (i + m)
-unfolding all
-all-skip p zero k i h = rw (zero-add, add-zero)
-all-skip p (suc m) k i h =
-    let e : suc m + k ≡ suc (m + k) = omega arith in
-    let f : i + suc m ≡ i + 1 + m = omega arith in
-    rw (e, f, h i (omega arith) (omega arith)) (all-skip p m k (i + 1) (λ j a b. h j (omega arith) (omega arith)))
+all-skip p m k i h = all-split p m k i ∙ rw (all-true p m i h)
 
 -- m places at which it fails are passed at once
 pub first-skip : (p : ℕ → Bool) (m k i : ℕ) → ((j : ℕ) → i ≤ j → j < i + m → p j ≡ false) → first p (m + k) i ≡ first p k (i + m)

@@ -1,14 +1,13 @@
 -- The rule of 15 behind a served open: nothing is staged of its tape yet, no file is made, and the files of every other tape stay, so what had room in the
 -- slots still has. Assumes nothing.
-use mathlib.Core.Path.{_≡_, refl, ap}
+use mathlib.Core.Path.{_≡_, refl}
 use mathlib.Core.Logic.{_≢_}
 use mathlib.Core.Bool.{true, false}
 use mathlib.Core.List.{List}
 use Prim.Native.Nat.{ℕ, zero, suc, _+_, _≤_, _<_, _^_}
 use native.Mathlib.Omega.{arith}
 use lib.Dec.{eqb}
-use lib.ListN.{length}
-use Rattle.octets.specs.Cases.{decide, equal, order}
+use Rattle.octets.specs.Cases.{decide, equal}
 use Rattle.octets.specs.Number.{Bytes}
 use Rattle.octets.specs.declared.Found.{Found}
 use Rattle.octets.specs.declared.Found.the-variants.{At, Nothing}
@@ -19,24 +18,20 @@ use Rattle.components.specs.SlotsLaws.{lacking-same}
 use Rattle.layout.specs.Disk.{slots}
 use Rattle.layout.specs.Names.{name}
 use Rattle.layout.specs.Session.{namesAt, handleNumber, fileSize}
-use Rattle.session.specs.declared.tape_rows.Handle.{Handle}
-use Rattle.session.specs.Rows.{transactionOf, handleOf}
+use Rattle.session.specs.Rows.{transactionOf}
 use Rattle.rolling_tape.specs.Room.{onDisk}
 use Rattle.staging.specs.Seeing.{isAppend, directoryOf, touchedAs}
 use Rattle.appending.specs.Room.{lackingIn, isStaged, lackingOf, lackingAll}
 use Rattle.appending.specs.RoomWays.{staged-held}
-use Rattle.opening.specs.Calls.{cachedBytes, openCall}
-use Rattle.opening.specs.declared.shape.Opening.{Opening}
-use Rattle.touches.specs.Opens.{opened, open-leaves-disk}
+use Rattle.opening.specs.Calls.{openCall, opened, rowStaged}
+use Rattle.touches.specs.Opens.{open-leaves-disk}
 use Rattle.touches.specs.Rows.{numAt-stays}
-use Rattle.joins.specs.Caches.{rowStaged}
 use Rattle.seen.specs.Orderly.{Orderly}
 use Rattle.seen.specs.Lacking.{none-lacking}
 use Rattle.seen.specs.Rooms.{Roomy}
-use Rattle.opened.specs.OpensRows.{Rows}
-use Rattle.opened.specs.OpensPlaces.{only-here}
+use Rattle.seen.specs.Rows.{size-row, touched-as}
 use Rattle.opened.specs.OpensServed.{ServedOpen, open-served}
-use Rattle.opened.specs.OpensOrder.{other-number}
+use Rattle.opened.specs.OpensOrder.{other-number, name-other, folder-same}
 
 -- where each tape lacks no more, all of them lack no more
 fewer-lacking : (d s e u : List ℕ) → ((q : ℕ) → q < 8 → lackingOf e u 8 0 q ≤ lackingOf d s 8 0 q) → (n i : ℕ) → i + n ≤ 8 → lackingAll e u 8 0 n i ≤ lackingAll d s 8 0 n i
@@ -45,17 +40,10 @@ fewer-lacking d s e u less zero i l = omega arith
 fewer-lacking d s e u less (suc n) i l = omega (arith, less i (omega arith), fewer-lacking d s e u less n (i + 1) (omega arith))
 
 module _ (d s : List ℕ) (t : ℕ) (wanted : List ℕ) (entry fs cache start : ℕ) (e u : List ℕ) (orderly : Orderly d s) (sv : ServedOpen d s t wanted entry fs cache start e u) where
-  abbrev p : ℕ
-  p = sv .place
-
-  abbrev o : Opening
-  o = opened s wanted entry fs cache start
-
-  abbrev rows : Rows s u p wanted o (cachedBytes d wanted o)
-  rows = sv .rows
+  open ServedOpen sv using (place as p, rows)
 
   -- its own bytes are all in its files
-  own-staged : touchedAs u p ≡ rowStaged o
+  own-staged : touchedAs u p ≡ rowStaged (opened s wanted entry fs cache start)
   unfolding touchedAs
   own-staged = rw (rows .own-staged)
 
@@ -70,37 +58,15 @@ module _ (d s : List ℕ) (t : ℕ) (wanted : List ℕ) (entry fs cache start : 
 
   -- another tape
   module _ (q : ℕ) (low : q < 8) (apart : q ≢ p) where
-    number-same : handleNumber u q ≡ handleNumber s q
-    number-same = other-number d s t wanted entry fs cache start e u orderly sv q low apart
-
-    size-same : fileSize u q ≡ fileSize s q
-    unfolding handleOf
-    size-same = ap (λ (h : Handle). h .«file_size») (rows .handles q low apart)
-
-    touched-same : touchedAs u q ≡ touchedAs s q
-    unfolding touchedAs
-    touched-same = rw (rows .stageds q low apart, rows .views 16 q (omega arith) low)
-
     staged-same : isStaged u 8 q ≡ isStaged s 8 q
-    staged-same = rw (number-same, rows .stageds q low apart)
-
-    name-other : handleNumber s q ≢ 0 → (name s namesAt q ≢ wanted) × (0 < length (name s namesAt q))
-    name-other held = (
-      (λ z. apart (only-here d s u p wanted o (cachedBytes d wanted o) orderly (sv .low) (sv .shaped .name-some) (sv .opens .place) rows q low z)),
-      order 0 (length (name s namesAt q)) (λ l. l) (λ (l : length (name s namesAt q) ≤ 0). absurd (held (orderly .free-shut q low (omega arith)))),
-    )
-
-    folder-same : handleNumber s q ≢ 0 → directoryOf e u q ≡ directoryOf d s q
-    folder-same held =
-        let other = name-other held in
-        rw (rows .names q low apart) (sv .readied .names (name s namesAt q) (other .0) (other .1))
+    staged-same = rw (other-number d s t wanted entry fs cache start e u orderly sv q low apart, rows .stageds q low apart)
 
     in-same : handleNumber s q ≢ 0 → (size from to : ℕ) → lackingIn e size from to (directoryOf d s q) ≡ lackingIn d size from to (directoryOf d s q)
     in-same held size from to = by (directoryOf d s q) refl
       where
         by : (f : Found) → directoryOf d s q ≡ f → lackingIn e size from to f ≡ lackingIn d size from to f
         by (At place) there =
-            let other = name-other held in
+            let other = name-other d s t wanted entry fs cache start e u orderly sv q low apart held in
             lacking-same (onDisk d place) (onDisk e place) (fileOf size from) (covered size from to)
             (λ j a b. sv .readied .changed .there place (sv .readied .apart (name s namesAt q) (other .0) (other .1) place there) j)
         by Nothing there = refl
@@ -111,7 +77,14 @@ module _ (d s : List ℕ) (t : ℕ) (wanted : List ℕ) (entry fs cache start : 
         decide (isStaged s 8 q)
         (λ (is : isStaged s 8 q ≡ true).
         let held = staged-held s 8 q is in
-        rw (staged-same, is, size-same, touched-same, folder-same held) (in-same held (fileSize s q) _ _))
+        rw (
+          staged-same,
+          is,
+          size-row s u q (rows .handles q low apart),
+          touched-as s u q (rows .stageds q low apart) (rows .views 16 q (omega arith) low),
+          folder-same d s t wanted entry fs cache start e u orderly sv q low apart held,
+        )
+        (in-same held (fileSize s q) _ _))
         (λ (none : isStaged s 8 q ≡ false). rw (staged-same, none))
 
   less-lacking : (q : ℕ) → q < 8 → lackingOf e u 8 0 q ≤ lackingOf d s 8 0 q

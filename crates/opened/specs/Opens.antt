@@ -1,6 +1,6 @@
 -- What a served open does to what is seen: of its tape what `lives` says, of every other tape nothing; its tape has the next handle's number, and the areas
 -- stay in order. Assumes nothing.
-use mathlib.Core.Path.{_≡_, refl, sym, ap, subst, _∙_}
+use mathlib.Core.Path.{_≡_, sym, ap, subst, _∙_}
 use mathlib.Core.Logic.{_≢_}
 use mathlib.Core.Bool.{true}
 use mathlib.Core.List.{List, []}
@@ -14,6 +14,7 @@ use Rattle.answers.specs.Answers.{codeOf}
 use Rattle.answers.specs.declared.Answer.the-variants as A
 use Rattle.metadata.specs.declared.choice.Side.{Side}
 use Rattle.metadata.specs.declared.choice.Side.the-variants.{Left, Right}
+use Rattle.layout.specs.NamesLaws.{name-low}
 use Rattle.layout.specs.Disk as D
 use Rattle.layout.specs.Session.{namesAt}
 use Rattle.disk.specs.Steps.{sideBytes}
@@ -21,24 +22,22 @@ use Rattle.session.specs.declared.head.Head.{Head}
 use Rattle.session.specs.declared.transactions.Kind.the-variants as K
 use Rattle.session.specs.declared.transactions.Transaction.{Transaction}
 use Rattle.session.specs.declared.views.View.{View}
-use Rattle.session.specs.Rows.{headOf, viewOf, transactionOf, ringBytes}
+use Rattle.session.specs.Rows.{headOf, transactionOf, ringBytes}
 use Rattle.rolling_tape.specs.Removal.{areas}
 use Rattle.beginning.specs.Transactions.{isOpenAt}
 use Rattle.beginning.specs.Ways.{usable-begun, usable-disk}
-use Rattle.opening.specs.Calls.{cachedBytes, viewFound, placeFor, openCall}
+use Rattle.opening.specs.Calls.{cachedBytes, viewFound, placeFor, openCall, opened}
 use Rattle.opening.specs.Laws.{open-sound, open-bytes}
 use Rattle.restarts.specs.Kept.{open-level}
-use Rattle.touches.specs.Opens.{opened, open-touches-disk, open-leaves-disk}
+use Rattle.touches.specs.Opens.{open-touches-disk, open-leaves-disk}
 use Rattle.touches.specs.Rows.{numAt-stays, side-stays}
 use Rattle.lives.specs.Life.{Store, Done, open′, step, After}
-use Rattle.seen.specs.Seen.{placeOf, viewIn, Seen, Handled}
+use Rattle.seen.specs.Seen.{placeOf, Seen, Handled}
 use Rattle.seen.specs.Orderly.{Orderly}
-use Rattle.seen.specs.Places.{found-low}
-use Rattle.seen.specs.Shown.{shown-keeps}
 use Rattle.seen.specs.Lists.{record-same}
 use Rattle.seen.specs.Same.{Same, seen-same, handled-same}
 use Rattle.opened.specs.OpensFolders.{readied-other}
-use Rattle.opened.specs.OpensPlaces.{other-place, apart-place}
+use Rattle.opened.specs.OpensPlaces.{listed-then, other-place, apart-place}
 use Rattle.opened.specs.OpensServed.{ServedOpen, open-answer, open-served}
 use Rattle.opened.specs.OpensOrder.{orderly-open}
 use Rattle.opened.specs.OpensSeen.{stepOpened, open-goes, own-seen, own-handled}
@@ -67,7 +66,7 @@ module _ (d s : List ℕ) (t : ℕ) (wanted : List ℕ) (entry fs cache start : 
         place = other-place d s u p wanted o bs orderly (sv .low) (sv .shaped .name-some) (sv .opens .place) rows n differs some;
         transactions = rows .transactions;
         tape = λ q at.
-            let low = found-low s namesAt n q at in
+            let low = name-low s namesAt n q at in
             let apart = apart-place d s u p wanted o bs orderly (sv .low) (sv .shaped .name-some) (sv .opens .place) rows n differs some q at in
             record {
               view = λ w l. rows .views w q l low;
@@ -140,14 +139,9 @@ module _ (d s : List ℕ) (t : ℕ) (wanted : List ℕ) (entry fs cache start : 
   open-handled = own-handled d s t wanted entry fs cache start after-disk after-session orderly sv
 
   module _ (st : Store) (seen : Seen d s wanted st) where
-    -- the append began with it listed just if it is listed
     pub open-listed : viewFound s (placeOf s wanted) .listed ≡ st .listed
     unfolding isOpenAt
-    open-listed = by (placeOf s wanted) refl ∙ ap (λ (x : View). x .listed) (seen .list)
-      where
-        by : (f : Found) → placeOf s wanted ≡ f → viewFound s f .listed ≡ viewIn s 17 f .listed
-        by (At q) at = ap (λ (x : View). x .listed) (orderly .writer-view (rw (sv .kind)) q (found-low s namesAt wanted q at)) ∙ sym (shown-keeps (viewOf s 17 q))
-        by Nothing at = refl
+    open-listed = listed-then d s wanted orderly (rw (sv .kind)) ∙ ap (λ (x : View). x .listed) (seen .list)
 
     module _ (reopened : st .listed ≡ true → fs ≡ st .size) where
       steps : step (open′ t fs cache start (openMemory s wanted)) st ≡ stepOpened d s t wanted entry fs cache start after-disk after-session orderly sv st seen

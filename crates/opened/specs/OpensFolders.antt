@@ -15,7 +15,7 @@ use Rattle.octets.specs.declared.Found.the-variants.{At, Nothing}
 use Rattle.components.specs.Files.{Files, noFiles}
 use Rattle.held.specs.Held.{taken}
 use Rattle.layout.specs.Names.{name, findName, putName}
-use Rattle.layout.specs.NamesLaws.{only-putName, name-only, name-putName}
+use Rattle.layout.specs.NamesLaws.{name-low, only-putName, name-only, name-putName}
 use Rattle.layout.specs.Disk.{directories, Sound}
 use Rattle.disk.specs.Meaning.{Disk, diskOf}
 use Rattle.disk.specs.MeaningLaws.{disk-emptyDirectory}
@@ -30,7 +30,7 @@ use Rattle.joins.specs.FilesAt.{Once}
 use Rattle.joins.specs.Tracks.{Changed}
 use Rattle.joins.specs.Directories.{changed-emptied, names-emptied, whole-emptied, changed-added, found-added, others-added, changed-taken, names-taken}
 use Rattle.seen.specs.Seen.{filesIn, filesFor}
-use Rattle.seen.specs.Places.{found-low, found-name, not-found}
+use Rattle.seen.specs.Places.{found-name, not-found}
 
 -- the files that the opened tape then has
 abbrev pub openedFiles : Opening → ℕ → Files → Files
@@ -103,7 +103,7 @@ module _ (a : Areas) (wanted : List ℕ) (place : ℕ) (whole : Whole a) (free :
   name-made : name (added a wanted (At place) .disk) directories place ≡ wanted
   name-made =
       ap (λ (e : List ℕ). name e directories place) added-is
-      ∙ name-putName bare directories place wanted (whole-emptied a place whole .sound .names .room) (found-low (a .disk) directories [] place free) small
+      ∙ name-putName bare directories place wanted (whole-emptied a place whole .sound .names .room) (name-low (a .disk) directories [] place free) small
 
   name-beside : (i : ℕ) → i < 8 → i ≢ place → name (added a wanted (At place) .disk) directories i ≡ name (a .disk) directories i
   name-beside i low apart =

@@ -6,34 +6,32 @@ use mathlib.Core.List.{List}
 use Prim.Native.Nat.{ℕ, _≤_, _<_}
 use native.Mathlib.Omega.{arith}
 use lib.ListN.{length}
-use Rattle.octets.specs.Cases.{decide, equal, order}
+use Rattle.octets.specs.Cases.{decide, equal}
 use Rattle.octets.specs.Compare.{sameBytes, same-true, same-refl}
 use Rattle.octets.specs.Number.{Bytes}
 use Rattle.layout.specs.Names.{name}
+use Rattle.layout.specs.NamesLaws.{name-low}
 use Rattle.layout.specs.Disk as D
 use Rattle.layout.specs.Session.{namesAt, handleNumber, Begun}
 use Rattle.session.specs.declared.head.Head.{Head}
 use Rattle.session.specs.Rows.{headOf}
+use Rattle.session.specs.RowLaws.{handle-numbered}
 use Rattle.rolling_tape.specs.Room.{isFound}
 use Rattle.beginning.specs.Sessions.{theRecord}
 use Rattle.beginning.specs.Transactions.{isOpenAt}
 use Rattle.staging.specs.Seeing.{directoryOf}
-use Rattle.opening.specs.Calls.{cachedBytes, nextHandle}
+use Rattle.opening.specs.Calls.{cachedBytes, nextHandle, opened}
 use Rattle.opening.specs.declared.shape.Opening.{Opening}
 use Rattle.ending.specs.CommitDurable.{Level}
-use Rattle.touches.specs.Opens.{opened}
 use Rattle.seen.specs.Seen.{placeOf, viewIn}
 use Rattle.seen.specs.Orderly.{Orderly}
-use Rattle.seen.specs.Places.{found-low}
-use Rattle.seen.specs.Rows.{number-of, number-row, open-row, view-rows}
+use Rattle.seen.specs.Rows.{number-row, open-row, view-rows, open-named}
 use Rattle.seen.specs.Lists.{recorded-as}
-use Rattle.opened.specs.OpensRows.{Rows}
 use Rattle.opened.specs.OpensPlaces.{only-here, other-place, own-list}
 use Rattle.opened.specs.OpensServed.{ServedOpen}
 
 module _ (d s : List ℕ) (t : ℕ) (wanted : List ℕ) (entry fs cache start : ℕ) (e u : List ℕ) (orderly : Orderly d s) (sv : ServedOpen d s t wanted entry fs cache start e u) where
-  abbrev p : ℕ
-  p = sv .place
+  open ServedOpen sv using (place as p, rows)
 
   abbrev o : Opening
   o = opened s wanted entry fs cache start
@@ -41,13 +39,10 @@ module _ (d s : List ℕ) (t : ℕ) (wanted : List ℕ) (entry fs cache start : 
   abbrev bs : List ℕ
   bs = cachedBytes d wanted o
 
-  abbrev rows : Rows s u p wanted o bs
-  rows = sv .rows
-
   -- ---- handles
 
   pub own-number : handleNumber u p ≡ nextHandle s
-  own-number = number-of u p _ (rows .own-handle)
+  own-number = sym (handle-numbered u p _ (sym (rows .own-handle)))
 
   pub other-number : (q : ℕ) → q < 8 → q ≢ p → handleNumber u q ≡ handleNumber s q
   other-number q l apart = number-row s u q (rows .handles q l apart)
@@ -105,17 +100,25 @@ module _ (d s : List ℕ) (t : ℕ) (wanted : List ℕ) (entry fs cache start : 
 
   -- ---- directories
 
+  -- an open tape in another place has another name, and its directory stands where it stood
+  pub name-other : (q : ℕ) → q < 8 → q ≢ p → handleNumber s q ≢ 0 → (name s namesAt q ≢ wanted) × (0 < length (name s namesAt q))
+  name-other q l apart held = (
+    (λ z. apart (only-here d s u p wanted o bs orderly (sv .low) (sv .shaped .name-some) (sv .opens .place) rows q l z)),
+    open-named d s orderly q l held,
+  )
+
+  pub folder-same : (q : ℕ) → q < 8 → q ≢ p → handleNumber s q ≢ 0 → directoryOf e u q ≡ directoryOf d s q
+  folder-same q l apart held =
+      let other = name-other q l apart held in
+      rw (rows .names q l apart) (sv .readied .names (name s namesAt q) (other .0) (other .1))
+
   folder-of : (q : ℕ) → q < 8 → handleNumber u q ≢ 0 → isFound (directoryOf e u q) ≡ true
   folder-of q l held =
       equal q p
       (λ (at : q ≡ p). rw (at, rows .own-name, sv .readied .found))
       (λ (apart : q ≢ p).
       let was : handleNumber s q ≢ 0 = λ z. held (other-number q l apart ∙ z) in
-      let some : 0 < length (name s namesAt q)
-      = order 0 (length (name s namesAt q)) (λ y. y) (λ (n : length (name s namesAt q) ≤ 0). absurd (was (orderly .free-shut q l (omega arith)))) in
-      let differs : name s namesAt q ≢ wanted
-      = λ z. apart (only-here d s u p wanted o bs orderly (sv .low) (sv .shaped .name-some) (sv .opens .place) rows q l z) in
-      rw (rows .names q l apart, sv .readied .names (name s namesAt q) differs some) (orderly .folder q l was))
+      rw (folder-same q l apart was) (orderly .folder q l was))
 
   -- ---- what the list says of every name
 
@@ -133,7 +136,7 @@ module _ (d s : List ℕ) (t : ℕ) (wanted : List ℕ) (entry fs cache start : 
       (λ (other : sameBytes n wanted ≡ false).
       let differs : n ≢ wanted = λ z. true≢false (sym (ap (λ (m : List ℕ). sameBytes m wanted) z ∙ same-refl wanted) ∙ other) in
       view-rows s u n (other-place d s u p wanted o bs orderly (sv .low) (sv .shaped .name-some) (sv .opens .place) rows n differs some) 17
-      (λ q at. rows .views 17 q (omega arith) (found-low s namesAt n q at)))
+      (λ q at. rows .views 17 q (omega arith) (name-low s namesAt n q at)))
 
   module _ (sound : D.Sound e) (begun : Begun u) (disk-bytes : Bytes e) (session-bytes : Bytes u) (records : theRecord e ≡ theRecord d) (level : Level e u) where
     pub orderly-open : Orderly e u

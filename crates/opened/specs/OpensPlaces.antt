@@ -12,17 +12,19 @@ use Rattle.octets.specs.First.{first-same, count-same}
 use Rattle.octets.specs.declared.Found.{Found}
 use Rattle.octets.specs.declared.Found.the-variants.{At, Nothing}
 use Rattle.layout.specs.Names.{name, findName}
+use Rattle.layout.specs.NamesLaws.{name-low}
 use Rattle.layout.specs.Session.{namesAt}
-use Rattle.session.specs.Meaning.{noView}
+use Rattle.session.specs.declared.views.View.{View}
 use Rattle.session.specs.Rows.{viewOf}
 use Rattle.beginning.specs.Transactions.{isOpenAt}
 use Rattle.opening.specs.declared.shape.Opening.{Opening}
-use Rattle.opening.specs.Calls.{placeFor}
+use Rattle.opening.specs.Calls.{viewFound, placeFor}
 use Rattle.lives.specs.Life.{Reader}
 use Rattle.seen.specs.Seen.{placeOf, shown, viewIn, readerIn, countOpen}
 use Rattle.seen.specs.Orderly.{Orderly}
 use Rattle.seen.specs.Places.{found-name, not-found, found-at}
 use Rattle.seen.specs.Rows.{open-row}
+use Rattle.seen.specs.Shown.{shown-keeps, shown-none}
 use Rattle.opened.specs.OpensRows.{Rows}
 
 -- the place that a tape gets: its own, or a free one
@@ -33,6 +35,14 @@ place-either {P} s wanted p place own free = by (placeOf s wanted) refl place
     by : (tape : Found) → placeOf s wanted ≡ tape → placeFor s tape ≡ At p → P
     by (At q) e f = own (e ∙ f)
     by Nothing e f = free e f
+
+-- an append began with a tape listed just if it is listed
+pub listed-then : (d s n : List ℕ) → Orderly d s → isOpenAt s 16 ≡ true → viewFound s (placeOf s n) .listed ≡ viewIn s 17 (placeOf s n) .listed
+listed-then d s n orderly writer = by (placeOf s n) refl
+  where
+    by : (f : Found) → placeOf s n ≡ f → viewFound s f .listed ≡ viewIn s 17 f .listed
+    by (At q) at = ap (λ (x : View). x .listed) (orderly .writer-view writer q (name-low s namesAt n q at)) ∙ sym (shown-keeps (viewOf s 17 q))
+    by Nothing at = refl
 
 differ : (a b : List ℕ) → a ≢ b → sameBytes a b ≡ false
 differ a b d = decide (sameBytes a b) (λ e. absurd (d (same-true a b e))) (λ e. e)
@@ -98,10 +108,7 @@ module _ (d s u : List ℕ) (p : ℕ) (wanted : List ℕ) (o : Opening) (bs : Li
       ∙ ap shown (rows .views w p l low)
       ∙ place-either s wanted p place
       (λ found. sym (ap (viewIn s w) found))
-      (λ missing free. none (unlisted free) ∙ sym (ap (viewIn s w) missing))
-    where
-      none : viewOf s w p .listed ≡ false → shown (viewOf s w p) ≡ noView
-      none e = rw e
+      (λ missing free. shown-none (viewOf s w p) (unlisted free) ∙ sym (ap (viewIn s w) missing))
 
   pub own-list : viewIn u 17 (placeOf u wanted) ≡ viewIn s 17 (placeOf s wanted)
   own-list = own-view 17 (omega arith) free-list

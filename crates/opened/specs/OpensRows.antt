@@ -39,12 +39,12 @@ use Rattle.opening.specs.Shape.{openingOf}
 use Rattle.opening.specs.ShapeLaws.{Shaped}
 use Rattle.opening.specs.Directory.{readied}
 use Rattle.opening.specs.DirectoryLaws.{only-readied-session, begun-readied}
-use Rattle.opening.specs.Calls.{cachedFrom, cachedBytes, nextHandle, rowed, viewFound, placeFor, openWith, openNow, openCall}
-use Rattle.opening.specs.Laws.{Opens, open-cases, opens-low, opens-shaped}
-use Rattle.opening.specs.PlacingLaws.{cached-most, length-cached, named, head-named, bytes-named}
+use Rattle.opening.specs.Calls.{cachedFrom, cachedBytes, nextHandle, rowStaged, rowHandle, handed, rowed, viewFound, placeFor, openWith, openNow, openCall, placeOf, opened}
+use Rattle.opening.specs.Laws.{Opens, row-fits, open-cases, opens-low, opens-shaped}
+use Rattle.opening.specs.PlacingLaws.{named, head-named, bytes-named}
 use Rattle.joins.specs.FilesAt.{filesAt}
-use Rattle.joins.specs.Caches.{rowStaged, rowHandle, rowHead, RowsIn, rows-in}
-use Rattle.touches.specs.Opens.{tapeNamed, opened, open-touches-session, open-leaves-session}
+use Rattle.joins.specs.Caches.{RowsIn, rows-in}
+use Rattle.touches.specs.Opens.{open-touches-session, open-leaves-session}
 use Rattle.touches.specs.Rows.{view-stays, transaction-stays, name-stays, handle-stays, ring-stays, staged-stays, cache-stays}
 
 -- ---- what it has found
@@ -54,7 +54,7 @@ pub record Went (d s : List ℕ) (t : ℕ) (wanted : List ℕ) (entry fs cache s
   pub place : ℕ
   pub both : usable d s ≡ true
   pub writer : writes s t ≡ true
-  pub opens : Opens d s wanted (opened s wanted entry fs cache start) (tapeNamed s wanted) place
+  pub opens : Opens d s wanted (opened s wanted entry fs cache start) (placeOf s wanted) place
   pub same : r ≡ openNow d s wanted (opened s wanted entry fs cache start) (findName d directories wanted) place
 
 pub open-went : (d s : List ℕ) (t : ℕ) (wanted : List ℕ) (entry fs cache start : ℕ) → codeOf (openCall d s t wanted entry fs cache start .answer) ≡ 0
@@ -67,7 +67,7 @@ open-went d s t wanted entry fs cache start =
 -- ---- the rows that it leaves
 
 pub record Rows (s u : List ℕ) (p : ℕ) (wanted : List ℕ) (o : Opening) (bs : List ℕ) : Type 0 where
-  pub head : headOf u ≡ rowHead s
+  pub head : headOf u ≡ handed (headOf s)
   pub own-name : name u namesAt p ≡ wanted
   pub names : (q : ℕ) → q < 8 → q ≢ p → name u namesAt q ≡ name s namesAt q
   pub views : (w q : ℕ) → w < 18 → q < 8 → viewOf u w q ≡ viewOf s w q
@@ -98,8 +98,8 @@ module _ (d s : List ℕ) (t : ℕ) (wanted : List ℕ) (entry fs cache start : 
   opening-fits : Bytes s → start < 2 ^ 64 → (o .len < 2 ^ 64) × (o .start < 2 ^ 64)
   unfolding openingOf
   opening-fits bytes small =
-      let fit = found-fits s bytes (tapeNamed s wanted) in
-      let v = viewFound s (tapeNamed s wanted) in (
+      let fit = found-fits s bytes (placeOf s wanted) in
+      let v = viewFound s (placeOf s wanted) in (
         picked (λ (n : ℕ). n < 2 ^ 64) (v .listed) (v .len) start (λ e. fit .0) (λ e. small),
         picked (λ (n : ℕ). n < 2 ^ 64) (v .listed) (v .start) start (λ e. fit .1) (λ e. small),
       )
@@ -159,20 +159,9 @@ module _ (d s : List ℕ) (t : ℕ) (wanted : List ℕ) (entry fs cache start : 
     rows-x =
         let shaped = went-shaped in
         let fit = opening-fits bytes small in
-        let many = length-cached o d wanted in
-        let most = cached-most o in
         rows-in x (begun-ready x begun-x)
         (bytes-named (areas d s) wanted o began directory p (usable-disk d s (w .both)) (shaped .name-short) (usable-begun d s (w .both) .long) went-low bytes new)
-        p went-low o bs
-        (record {
-          entry-some = shaped .entry-some;
-          entry-small = shaped .entry-small;
-          file-some = shaped .file-some;
-          file-small = shaped .file-small;
-          cache-some = shaped .cache-some;
-          cache-small = shaped .cache-small;
-          within = omega arith;
-        })
+        p went-low o bs (row-fits d x wanted p o shaped)
         last-fits (fit .0) (fit .1)
 
     pub went-session : u ≡ rowed x p o bs
@@ -186,7 +175,7 @@ module _ (d s : List ℕ) (t : ℕ) (wanted : List ℕ) (entry fs cache start : 
         let leaves = open-leaves-session d s t wanted entry fs cache start in
         let long = open-touches-session d s t wanted entry fs cache start .long in
         let here = w .opens .place in
-        let apart : (q : ℕ) → q ≢ p → placeFor s (tapeNamed s wanted) ≢ At q = λ q d z. d (let same : q ≡ p = cc in same) in
+        let apart : (q : ℕ) → q ≢ p → placeFor s (placeOf s wanted) ≢ At q = λ q d z. d (let same : q ≡ p = cc in same) in
         let short = usable-begun d s (w .both) .names .short in
         let handed : nextHandle x ≡ nextHandle s = ap (λ (h : Head). h .«last_handle» + 1) head-x in
         record {

@@ -15,6 +15,7 @@ use Rattle.components.specs.Files.{Files, noFiles}
 use Rattle.held.specs.Held.{filled, load, taken}
 use Rattle.layout.specs.Disk.{directories}
 use Rattle.layout.specs.Names.{findName}
+use Rattle.layout.specs.NamesLaws.{name-low}
 use Rattle.layout.specs.Session.{namesAt, handleNumber, fileSize}
 use Rattle.session.specs.declared.head.Head.{Head}
 use Rattle.session.specs.declared.tape_rows.Handle.{Handle}
@@ -29,14 +30,11 @@ use Rattle.staging.specs.Seeing.{seenBy, touchedAs}
 use Rattle.opening.specs.declared.shape.Opening.{Opening}
 use Rattle.opening.specs.Shape.{openingOf}
 use Rattle.opening.specs.NamesLeft.{isNothing}
-use Rattle.opening.specs.Calls.{cachedFrom, cachedCount, cachedBytes, nextHandle, viewFound, isOpenTape}
-use Rattle.touches.specs.Opens.{opened}
+use Rattle.opening.specs.Calls.{cachedFrom, cachedCount, cachedBytes, nextHandle, viewFound, isOpenTape, opened}
 use Rattle.joins.specs.Fetches.{given, load-reads}
 use Rattle.lives.specs.Life.{appending, Store, After, Done, open′, step, stepOpen, capacityFits, then, openNew}
-use Rattle.seen.specs.Seen.{placeOf, shown, viewIn, stagedIn, writerAs, writerIn, touchedIn, liveIn, filesIn, SeenOpen, Seen, Handled, handleIn, entryIn}
+use Rattle.seen.specs.Seen.{placeOf, shown, viewIn, stagedIn, writerAs, writerIn, touchedIn, filesIn, SeenOpen, Seen, Handled, handleIn, entryIn}
 use Rattle.seen.specs.Orderly.{Orderly}
-use Rattle.seen.specs.Places.{found-low}
-use Rattle.opened.specs.OpensRows.{Rows}
 use Rattle.opened.specs.OpensFolders.{openedFiles}
 use Rattle.opened.specs.OpensPlaces.{place-either, own-place, own-list, own-readers}
 use Rattle.opened.specs.OpensServed.{ServedOpen}
@@ -68,17 +66,13 @@ listed-len other x li l f e listed =
 -- ---- the tape as it was
 
 module _ (d s : List ℕ) (t : ℕ) (wanted : List ℕ) (entry fs cache start : ℕ) (e u : List ℕ) (orderly : Orderly d s) (sv : ServedOpen d s t wanted entry fs cache start e u) where
-  abbrev p : ℕ
-  p = sv .place
+  open ServedOpen sv using (place as p, rows)
 
   abbrev o : Opening
   o = opened s wanted entry fs cache start
 
   abbrev bs : List ℕ
   bs = cachedBytes d wanted o
-
-  abbrev rows : Rows s u p wanted o bs
-  rows = sv .rows
 
   abbrev began : ℕ
   began = transactionOf s 16 .epoch
@@ -95,7 +89,7 @@ module _ (d s : List ℕ) (t : ℕ) (wanted : List ℕ) (entry fs cache start : 
       by (At q) at shut =
           let none : handleNumber s q ≡ 0
           = decide (eqb (handleNumber s q) 0) (λ z. eqb-true _ _ z) (λ (z : eqb (handleNumber s q) 0 ≡ false). absurd (true≢false (rw z at shut))) in
-          rw (orderly .shut-untouched q (found-low s namesAt wanted q at) none)
+          rw (orderly .shut-untouched q (name-low s namesAt wanted q at) none)
       by Nothing at shut = refl
 
   module _ (st : Store) (seen : Seen d s wanted st) where
@@ -106,11 +100,7 @@ module _ (d s : List ℕ) (t : ℕ) (wanted : List ℕ) (entry fs cache start : 
         ∙ rw (sv .kind, sv .number)
 
     shut-was : st .live ≡ false
-    shut-was = sym (seen .live) ∙ by (placeOf s wanted) (sv .opens .shut)
-      where
-        by : (f : Found) → isOpenTape s f ≡ false → liveIn s f ≡ false
-        by (At q) e = e
-        by Nothing e = e
+    shut-was = sym (seen .live) ∙ sv .opens .shut
 
     memory-fits : (capacityFits cache (ringBytes s p) && ltb 0 fs) ≡ true
     unfolding openingOf
@@ -237,7 +227,7 @@ module _ (d s : List ℕ) (t : ℕ) (wanted : List ℕ) (entry fs cache start : 
           readers = λ has. own-readers d s u p wanted o bs orderly (sv .low) (sv .shaped .name-some) (sv .opens .place) rows has ∙ seen .readers has;
           writer = writer-is;
           touched = ap (touchedIn u) here ∙ ap (λ (x : Staged). x .touched) (rows .own-staged);
-          live = ap (liveIn u) here ∙ rw (own-number d s t wanted entry fs cache start e u orderly sv, ne-eqb (nextHandle s) 0 (λ z. omega arith));
+          live = ap (isOpenTape u) here ∙ rw (own-number d s t wanted entry fs cache start e u orderly sv, ne-eqb (nextHandle s) 0 (λ z. omega arith));
           files = ap (filesIn e u) (sv .readied .found) ∙ sv .readied .changed .own ∙ ap (openedFiles o began) (seen .files);
           opened = λ q found live.
               let same : q ≡ p = cc in

@@ -16,10 +16,9 @@ use Rattle.beginning.specs.Transactions.{usable}
 use Rattle.opening.specs.declared.shape.Opening.{Opening}
 use Rattle.opening.specs.ShapeLaws.{Shaped}
 use Rattle.opening.specs.Directory.{readied}
-use Rattle.opening.specs.Calls.{cachedBytes, nextHandle, openWith, openNow, openCall}
+use Rattle.opening.specs.Calls.{cachedBytes, nextHandle, openWith, openNow, openCall, placeOf, opened}
 use Rattle.opening.specs.Laws.{Opens}
 use Rattle.joins.specs.FilesAt.{filesAt}
-use Rattle.touches.specs.Opens.{tapeNamed, opened}
 use Rattle.seen.specs.Orderly.{Orderly}
 use Rattle.seen.specs.Kinds.{writes-kind, writes-as, began-fits}
 use Rattle.opened.specs.OpensRows.{Went, open-went, Rows, went-low, went-shaped, went-rows, went-disk, went-files}
@@ -32,7 +31,7 @@ pub record ServedOpen (d s : List ℕ) (t : ℕ) (wanted : List ℕ) (entry fs c
   pub both : usable d s ≡ true
   pub kind : transactionOf s 16 .kind ≡ K.Append
   pub number : transactionOf s 16 .number ≡ t
-  pub opens : Opens d s wanted (opened s wanted entry fs cache start) (tapeNamed s wanted) place
+  pub opens : Opens d s wanted (opened s wanted entry fs cache start) (placeOf s wanted) place
   pub shaped : Shaped wanted (opened s wanted entry fs cache start)
   pub rows : Rows s u place wanted (opened s wanted entry fs cache start) (cachedBytes d wanted (opened s wanted entry fs cache start))
   pub readied : Readied (areas d s) (areas e u) wanted (opened s wanted entry fs cache start) (transactionOf s 16 .epoch)

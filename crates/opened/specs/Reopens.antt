@@ -1,5 +1,5 @@
 -- What is served of areas that are in order: a `store`, also over another session area; an append where nobody writes, as behind a `store`; and the open of a
--- tape that sleeps on the disk. Assumes nothing.
+-- tape that sleeps on the disk, or of a new one. Assumes nothing.
 use mathlib.Core.Path.{_≡_, refl, sym, ap, subst, _∙_}
 use mathlib.Core.Logic.{_≢_}
 use mathlib.Core.Bool.{Bool, true, false, true≢false}
@@ -23,6 +23,7 @@ use Rattle.metadata.specs.Name.{nameRule}
 use Rattle.layout.specs.Disk.{directories}
 use Rattle.layout.specs.DiskLaws as DL
 use Rattle.layout.specs.Names.{findName}
+use Rattle.layout.specs.NamesLaws.{name-low}
 use Rattle.layout.specs.Session.{namesAt, sound}
 use Rattle.layout.specs.SessionLaws.{→sound}
 use Rattle.held.specs.Held.{load}
@@ -31,6 +32,7 @@ use Rattle.session.specs.declared.head.Head.{Head}
 use Rattle.session.specs.declared.transactions.Kind.the-variants as K
 use Rattle.session.specs.declared.views.View.{View}
 use Rattle.session.specs.Rows.{headOf, viewOf}
+use Rattle.rolling_tape.specs.ReadingLaws.{canRead-none}
 use Rattle.rolling_tape.specs.Room.{isFound}
 use Rattle.beginning.specs.Transactions.{After, isOpenAt}
 use Rattle.beginning.specs.Sessions.{startWith, storeCall}
@@ -39,23 +41,24 @@ use Rattle.beginning.specs.Ways.{both-by-session, store-starts, append-uncut, b
 use Rattle.staging.specs.Seeing.{writes}
 use Rattle.opening.specs.declared.shape.Opening.{Opening}
 use Rattle.opening.specs.Shape.{METADATA, openingOf, shapeOf}
-use Rattle.opening.specs.Ways.{shape-good, ninth-listed}
+use Rattle.opening.specs.Ways.{opening-new, shape-good, ninth-listed}
 use Rattle.opening.specs.NamesLeft.{isNothing, isNinth}
-use Rattle.opening.specs.Calls.{canFill, viewFound, isOpenTape, placeFor, openWith, openNow, openIn, openOn, openCall}
+use Rattle.opening.specs.Calls.{cachedFrom, canFill, viewFound, placeFor, openWith, openNow, openIn, openOn, openCall, opened}
+use Rattle.opening.specs.Laws.{Opens, open-done}
 use Rattle.opening.specs.CallWays.{open-goes, on-shaped, at-place, in-last, in-now}
 use Rattle.restarts.specs.Level.{store-head}
 use Rattle.joins.specs.Fetches.{load-read}
 use Rattle.lives.specs.Life.{Store}
 use Rattle.lives.specs.Told.{Told}
 use Rattle.lives.specs.Invariant.{Phys, build, Dormant, GoodIf, Good}
-use Rattle.touches.specs.Opens.{opened}
-use Rattle.seen.specs.Seen.{placeOf, shown, viewIn, liveIn, filesIn, Seen}
+use Rattle.seen.specs.Seen.{placeOf, shown, viewIn, filesIn, Seen}
 use Rattle.seen.specs.Orderly.{Orderly, orderly-usable}
 use Rattle.seen.specs.Proper.{Proper}
-use Rattle.seen.specs.Places.{found-low, found-name}
+use Rattle.seen.specs.Places.{found-name}
 use Rattle.seen.specs.Shown.{shown-listed}
 use Rattle.seen.specs.Restarts.{orderly-disk, shut-stored, store-orderly}
 use Rattle.seen.specs.Kinds.{writes-open}
+use Rattle.opened.specs.OpensPlaces.{listed-then}
 
 -- ---- a store
 
@@ -92,11 +95,6 @@ pub append-after-store : (d s : List ℕ) → Orderly d s → appendCall d (stor
 append-after-store d s o = append-after-store-in d s s o (→sound s (o .session)) (o .session-bytes)
 
 -- ---- an open
-
--- a tape without a handle is not open
-shut-seen : (s : List ℕ) (f : Found) → liveIn s f ≡ false → isOpenTape s f ≡ false
-shut-seen s (At p) e = e
-shut-seen s Nothing e = e
 
 -- what a view that is shown as listed is
 listed-view : (x : View) (li : Bool) (l f : ℕ) → shown x ≡ record { listed = li; len = l; start = f } → li ≡ true → x ≡ record { listed = true; len = l; start = f }
@@ -136,7 +134,7 @@ module _ (d s n : List ℕ) (orderly : Orderly d s) (st : Store) (seen : Seen d 
   unfolding openingOf
   opened-known writer entry fs cache start =
       let q = known .place in
-      let low = found-low s namesAt n q (known .found) in
+      let low = name-low s namesAt n q (known .found) in
       ap (λ (f : Found). openingOf (viewFound s f) entry fs cache start) (known .found)
       ∙ ap (λ (v : View). openingOf v entry fs cache start) (orderly .writer-view writer q low ∙ known .view)
 
@@ -152,7 +150,7 @@ module _ (d s n : List ℕ) (orderly : Orderly d s) (st : Store) (seen : Seen d 
       by (At i) e = record { directory = i; there = e }
       by Nothing e =
           let q = known .place in
-          let house = proper .housed q (found-low s namesAt n q (known .found)) (ap (λ (v : View). v .listed) (known .view)) in
+          let house = proper .housed q (name-low s namesAt n q (known .found)) (ap (λ (v : View). v .listed) (known .view)) in
           let nowhere = ap (λ (m : List ℕ). isFound (findName d directories m)) (found-name s namesAt n q (known .found)) ∙ ap isFound e in
           absurd (true≢false (sym house ∙ nowhere))
 
@@ -189,7 +187,7 @@ module _ (d s n : List ℕ) (long : 0 < length n) (orderly : Orderly d s) (prope
 
   its-shape : shapeOf n asked ≡ Done 0
   its-shape =
-      let low = found-low s namesAt n (own .place) (own .found) in
+      let low = name-low s namesAt n (own .place) (own .found) in
       let has = found-name s namesAt n (own .place) (own .found) in
       let some-name = subst (λ (m : List ℕ). 0 < length m) (sym has) long in
       shaped n asked
@@ -202,7 +200,7 @@ module _ (d s n : List ℕ) (long : 0 < length n) (orderly : Orderly d s) (prope
       open-goes d s k n entry (t .size) cache start (orderly-usable d s orderly) writer
       ∙ ap (λ (o : Opening). openOn d s n o (placeOf s n)) (opened-known d s n orderly (build t p) seen listed (writes-open s k writer) entry (t .size) cache start)
       ∙ on-shaped d s n asked (placeOf s n) 0 its-shape
-      ∙ at-place d s n asked (placeOf s n) (shut-seen s (placeOf s n) (seen .live ∙ shut)) (own .place) (ap (placeFor s) (own .found))
+      ∙ at-place d s n asked (placeOf s n) (seen .live ∙ shut) (own .place) (ap (placeFor s) (own .found))
 
   few : isNinth d s true folder ≡ false
   few = ninth-listed d s true folder refl
@@ -225,3 +223,31 @@ module _ (d s n : List ℕ) (long : 0 < length n) (orderly : Orderly d s) (prope
   -- so it is served, unless that is its refusal
   pub open-fits : codeOf (openCall d s k n entry (t .size) cache start .answer) ≢ 18 → codeOf (openCall d s k n entry (t .size) cache start .answer) ≡ 0
   open-fits remain = ap codeOf (open-serves (λ used-up. remain (ap (λ (r : Outcome). codeOf (r .answer)) (open-last used-up))))
+
+-- ---- a new tape
+
+-- wherever the tape has its place, or the first free one, and it is no ninth name
+pub open-new-serves : (d s n : List ℕ) → Orderly d s → (st : Store) → Seen d s n st → st .live ≡ false → st .listed ≡ false → nameRule n ≡ true
+    → sameBytes n METADATA ≡ false → isNinth d s false (findName d directories n) ≡ false → (q : ℕ) → placeFor s (placeOf s n) ≡ At q
+    → (k entry fs cache start : ℕ) → writes s k ≡ true → 1 ≤ entry → entry ≤ 256 → start % entry ≡ 0 → 1 ≤ fs → fs ≤ 4096 → 1 ≤ cache → cache ≤ 4096
+    → headOf s .«last_handle» ≢ 0xffff_ffff_ffff_ffff
+    → openCall d s k n entry fs cache start .answer ≡ Done (headOf s .«last_handle» + 1)
+unfolding openNow openWith
+open-new-serves d s n orderly st seen shut unlisted named other few q place k entry fs cache start writer entry-some entry-small whole file-some file-small cache-some cache-small more =
+    let o : Opening = record { entry = entry; «file_size» = fs; cache = cache; listed = false; len = start; start = start } in
+    let new : viewFound s (placeOf s n) .listed ≡ false
+    = listed-then d s n orderly (writes-open s k writer) ∙ ap (λ (v : View). v .listed) (seen .list) ∙ unlisted in
+    let found : Opens d s n o (placeOf s n) q
+    = record {
+      value = 0;
+      shape = shaped n o named other entry-some entry-small file-some file-small cache-some cache-small whole whole;
+      shut = seen .live ∙ shut;
+      place = place;
+      few = few;
+      there = refl;
+      fill = canRead-none d s false n fs (cachedFrom o);
+      more = more;
+    } in
+    ap (λ (r : Outcome). r .answer)
+    (open-done d s k n entry fs cache start (orderly-usable d s orderly) writer q
+    (subst (λ (x : Opening). Opens d s n x (placeOf s n) q) (opening-new (viewFound s (placeOf s n)) entry fs cache start new) found))

@@ -19,9 +19,9 @@ use Rattle.session.specs.Rows.{headOf}
 use Rattle.beginning.specs.Transactions.{usable}
 use Rattle.staging.specs.Seeing.{writes}
 use Rattle.opening.specs.declared.shape.Opening.{Opening}
-use Rattle.opening.specs.Shape.{openingOf, shapeOf}
+use Rattle.opening.specs.Shape.{shapeOf}
 use Rattle.opening.specs.NamesLeft.{isNothing, isNinth}
-use Rattle.opening.specs.Calls.{canFill, openNow, openIn, viewFound, isOpenTape, placeFor, openAt, openOn, openCall}
+use Rattle.opening.specs.Calls.{canFill, openNow, openIn, isOpenTape, placeFor, openAt, openOn, openCall, placeOf, opened}
 
 -- the place for a tape that has one below 8, or none
 pub place-low : (s : List ℕ) (tape : Found) (p : ℕ) → ((q : ℕ) → tape ≡ At q → q < 8) → placeFor s tape ≡ At p → p < 8
@@ -86,6 +86,6 @@ module _ (d s : List ℕ) (t : ℕ) (wanted : List ℕ) (entry fs cache start : 
 
     pub open-goes : writes s t ≡ true
         → openCall d s t wanted entry fs cache start
-        ≡ openOn d s wanted (openingOf (viewFound s (findName s namesAt wanted)) entry fs cache start) (findName s namesAt wanted)
+        ≡ openOn d s wanted (opened s wanted entry fs cache start) (placeOf s wanted)
     unfolding openCall
     open-goes h = rw (ok, h)

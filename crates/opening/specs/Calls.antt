@@ -14,6 +14,9 @@ use Rattle.layout.specs.Names.{findName, putName}
 use Rattle.layout.specs.Session.{namesAt, handleNumber}
 use Rattle.session.specs.Rows.{headOf, putHead, viewOf, transactionOf, putHandle, putStaged}
 use Rattle.session.specs.Meaning.{noView}
+use Rattle.session.specs.declared.head.Head.{Head}
+use Rattle.session.specs.declared.tape_rows.Handle.{Handle}
+use Rattle.session.specs.declared.tape_rows.Staged.{Staged}
 use Rattle.session.specs.declared.views.View.{View}
 use Rattle.rolling_tape.specs.Reading.{canRead, readRun}
 use Rattle.rolling_tape.specs.Removal.{areas}
@@ -46,22 +49,20 @@ cachedBytes d wanted o = readRun d wanted (o .«file_size») (cachedFrom o) (cac
 abbrev pub nextHandle : List ℕ → ℕ
 nextHandle s = headOf s .«last_handle» + 1
 
--- ring, staged record, handle, in place p, and the handle's number as the last one given
+-- its staged record and its handle
+abbrev pub rowStaged : Opening → Staged
+rowStaged o = record { touched = true; base = o .len; len = o .len; start = o .start; unwritten = 0 }
+
+abbrev pub rowHandle : List ℕ → Opening → Handle
+rowHandle s o = record { number = nextHandle s; entry = o .entry; «file_size» = o .«file_size» }
+
+-- a session's own fields, with the handle's number as the last one given
+abbrev pub handed : Head → Head
+handed h = record { epoch = h .epoch; cut = h .cut; side = h .side; «last_transaction» = h .«last_transaction»; «last_handle» = h .«last_handle» + 1 }
+
+-- ring and these, in place p
 unfoldable pub rowed : List ℕ → ℕ → Opening → List ℕ → List ℕ
-rowed s p o bs =
-    putHead
-    (putHandle
-    (putStaged (filledWith s p (o .cache) (cachedFrom o) bs) p
-    (record { touched = true; base = o .len; len = o .len; start = o .start; unwritten = 0 }))
-    p
-    (record { number = nextHandle s; entry = o .entry; «file_size» = o .«file_size» }))
-    (record {
-      epoch = headOf s .epoch;
-      cut = headOf s .cut;
-      side = headOf s .side;
-      «last_transaction» = headOf s .«last_transaction»;
-      «last_handle» = nextHandle s;
-    })
+rowed s p o bs = putHead (putHandle (putStaged (filledWith s p (o .cache) (cachedFrom o) bs) p (rowStaged o)) p (rowHandle s o)) (handed (headOf s))
 
 -- ---- the tape in place p
 
@@ -85,13 +86,22 @@ openIn d s wanted o directory p =
 
 -- ---- the tape of a name
 
+-- its place in the session
+abbrev pub placeOf : List ℕ → List ℕ → Found
+placeOf s wanted = findName s namesAt wanted
+
 abbrev pub viewFound : List ℕ → Found → View
 viewFound s (At p) = viewOf s 16 p
 viewFound s Nothing = noView
 
+-- it has a handle
 abbrev pub isOpenTape : List ℕ → Found → Bool
 isOpenTape s (At p) = not (eqb (handleNumber s p) 0)
 isOpenTape s Nothing = false
+
+-- what is opened
+abbrev pub opened : List ℕ → List ℕ → ℕ → ℕ → ℕ → ℕ → Opening
+opened s wanted entry fs cache start = openingOf (viewFound s (placeOf s wanted)) entry fs cache start
 
 -- the place that the tape has, else the first free one
 abbrev pub placeFor : List ℕ → Found → Found
@@ -116,6 +126,6 @@ unfoldable pub openCall : List ℕ → List ℕ → ℕ → List ℕ → ℕ →
 openCall d s t wanted entry fs cache start =
     cond (usable d s)
     (cond (writes s t)
-    (openOn d s wanted (openingOf (viewFound s (findName s namesAt wanted)) entry fs cache start) (findName s namesAt wanted))
+    (openOn d s wanted (opened s wanted entry fs cache start) (placeOf s wanted))
     (refusedAt Unknown d s))
     (refusedAt Unusable d s)

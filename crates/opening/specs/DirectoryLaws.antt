@@ -18,7 +18,7 @@ use Rattle.disk.specs.StepLaws.{length-addDirectory, length-emptyDirectory}
 use Rattle.disk.specs.SoundLaws.{slots-emptyDirectory, slots-addDirectory, sound-addDirectory, sound-emptyDirectory, bytes-addDirectory, bytes-emptyDirectory}
 use Rattle.session.specs.KeepLaws.{begun-only}
 use Rattle.rolling_tape.specs.Removal.{Areas, areas}
-use Rattle.rolling_tape.specs.Kept.{Kept, kept-none}
+use Rattle.rolling_tape.specs.Kept.{KeptSound, kept-sound-none}
 use Rattle.rolling_tape.specs.RemovalLaws.{length-removeRipe-disk, slots-removeRipe, sound-removeRipe, bytes-removeRipe-disk, only-removeRipe-session, bytes-removeRipe-session}
 use Rattle.rolling_tape.specs.Tracking.{retracked}
 use Rattle.rolling_tape.specs.TrackingLaws.{length-retracked, only-retracked, bytes-retracked}
@@ -56,7 +56,7 @@ module _ (a : Areas) (place : ℕ) (o : Opening) (began : ℕ) where
 -- ---- both areas, as far as they are kept
 
 module _ (a : Areas) (place : ℕ) (o : Opening) (began : ℕ) (sound : Sound (a .disk)) where
-  kept-taken : Kept a (takenFiles a place o began)
+  kept-taken : KeptSound a (takenFiles a place o began)
   unfolding takenFiles
   kept-taken =
       let few = sound .head .few in
@@ -80,7 +80,7 @@ module _ (a : Areas) (place : ℕ) (o : Opening) (began : ℕ) (sound : Sound (a
       bytes-removeRipe-session (marks a place o began) place _ few (omega arith) (bytes-marked a place o began few long bytes)
 
 module _ (a : Areas) (place : ℕ) (sound : Sound (a .disk)) where
-  kept-emptied : Kept a (emptied a place)
+  kept-emptied : KeptSound a (emptied a place)
   unfolding emptied
   kept-emptied =
       record {
@@ -103,7 +103,7 @@ sound-emptied a place sound = kept-emptied a place sound .sound
 
 -- the place is emptied, and then gets its name
 kept-made : (a : Areas) (wanted : List ℕ) (place : ℕ) → Sound (a .disk) → length wanted ≤ 24
-    → Kept a (areas (addDirectory (emptied a place .disk) wanted .area) (emptied a place .session))
+    → KeptSound a (areas (addDirectory (emptied a place .disk) wanted .area) (emptied a place .session))
 kept-made a wanted place sound small =
     let e = kept-emptied a place sound in
     let d = emptied a place .disk in
@@ -140,13 +140,13 @@ module _ (a : Areas) (wanted : List ℕ) (o : Opening) (began : ℕ) (directory 
       bytes
 
   module _ (small : length wanted ≤ 24) where
-    kept-readied : Kept a (readied a wanted o began directory)
+    kept-readied : KeptSound a (readied a wanted o began directory)
     kept-readied =
-        ready-either (Kept a) a wanted o began directory
+        ready-either (KeptSound a) a wanted o began directory
         (λ place. kept-taken a place o began sound)
         (λ place. kept-emptied a place sound)
         (λ place. kept-made a wanted place sound small)
-        (kept-none a sound)
+        (kept-sound-none a sound)
 
     pub sound-readied : Sound (readied a wanted o began directory .disk)
     sound-readied = kept-readied .sound

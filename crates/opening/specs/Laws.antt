@@ -14,7 +14,7 @@ use Rattle.octets.specs.Number.{Bytes}
 use Rattle.octets.specs.declared.Found.{Found}
 use Rattle.octets.specs.declared.Found.the-variants.{At, Nothing}
 use Rattle.answers.specs.Answers.{codeOf}
-use Rattle.answers.specs.Outcome.{Outcome, outcome, refusedAt}
+use Rattle.answers.specs.Outcome.{Outcome, outcome, refusedAt, Unchanged}
 use Rattle.answers.specs.declared.Answer.{Answer}
 use Rattle.answers.specs.declared.Answer.the-variants.{Done, Refused}
 use Rattle.answers.specs.declared.Refusal.{Refusal}
@@ -33,15 +33,15 @@ use Rattle.beginning.specs.Ways.{usable-begun, usable-disk}
 use Rattle.beginning.specs.Laws.{both-unique}
 use Rattle.staging.specs.Seeing.{writes}
 use Rattle.opening.specs.declared.shape.Opening.{Opening}
-use Rattle.opening.specs.Shape.{openingOf, shapeOf}
+use Rattle.opening.specs.Shape.{shapeOf}
 use Rattle.opening.specs.ShapeLaws.{Shaped, shape-done}
 use Rattle.opening.specs.NamesLeft.{isNothing, isNinth}
 use Rattle.opening.specs.Directory.{readied}
 use Rattle.opening.specs.DirectoryLaws.{sound-readied, length-readied-disk, begun-readied, bytes-readied-disk}
-use Rattle.opening.specs.Calls.{cachedFrom, cachedCount, canFill, cachedBytes, openWith, openNow, openIn, viewFound, isOpenTape, placeFor, openPlaced, openAt, openShaped, openOn, openCall}
+use Rattle.opening.specs.Calls.{cachedFrom, cachedCount, canFill, cachedBytes, openWith, openNow, openIn, isOpenTape, placeFor, openPlaced, openAt, openShaped, openOn, openCall, placeOf, opened}
 use Rattle.opening.specs.CallWays.{place-low, in-now, at-place, on-shaped, open-goes}
 use Rattle.opening.specs.PlacingLaws.{cached-most, length-cached, bytes-readRun, named, length-named, bytes-named}
-use Rattle.opening.specs.RowedLaws.{length-rowed, bytes-rowed, begun-rowed}
+use Rattle.opening.specs.RowedLaws.{RowFits, length-rowed, bytes-rowed, begun-rowed}
 
 -- ---- the contract leaves nothing open
 
@@ -111,53 +111,62 @@ module _ (P : Outcome → Type 0) (d s wanted : List ℕ) (no : (why : Refusal) 
         by (Done v) shape = at-cases v shape goes
         by (Refused why) shape = no why
 
-module _ (d s : List ℕ) (t : ℕ) (wanted : List ℕ) (entry fs cache start : ℕ) where
-  abbrev pub tapeFound : Found
-  tapeFound = findName s S.namesAt wanted
+-- the row of a tape whose shape is taken is in range
+pub row-fits : (d s wanted : List ℕ) (p : ℕ) (o : Opening) → Shaped wanted o → RowFits s p o (cachedBytes d wanted o)
+row-fits d s wanted p o shaped =
+    let many = length-cached o d wanted in
+    let most = cached-most o in
+    record {
+      entry-some = shaped .entry-some;
+      entry-small = shaped .entry-small;
+      file-some = shaped .file-some;
+      file-small = shaped .file-small;
+      cache-some = shaped .cache-some;
+      cache-small = shaped .cache-small;
+      within = omega arith;
+    }
 
-  abbrev pub opened : Opening
-  opened = openingOf (viewFound s tapeFound) entry fs cache start
+module _ (d s : List ℕ) (t : ℕ) (wanted : List ℕ) (entry fs cache start : ℕ) where
+  abbrev o : Opening
+  o = opened s wanted entry fs cache start
 
   abbrev pub result : Outcome
   result = openCall d s t wanted entry fs cache start
 
   abbrev pub served : ℕ → Outcome
-  served p = openNow d s wanted opened (findName d D.directories wanted) p
+  served p = openNow d s wanted o (findName d D.directories wanted) p
 
   pub open-cases : (P : Outcome → Type 0) → ((why : Refusal) → P (refusedAt why d s))
-      → (usable d s ≡ true → writes s t ≡ true → (p : ℕ) → Opens d s wanted opened tapeFound p → P (served p)) → P result
+      → (usable d s ≡ true → writes s t ≡ true → (p : ℕ) → Opens d s wanted o (placeOf s wanted) p → P (served p)) → P result
   unfolding openCall
   open-cases P stays goes =
       picked P (usable d s) _ _
-      (λ ok. picked P (writes s t) _ _ (λ w. on-cases P d s wanted stays opened tapeFound (goes ok w)) (λ w. stays Unknown))
+      (λ ok. picked P (writes s t) _ _ (λ w. on-cases P d s wanted stays o (placeOf s wanted) (goes ok w)) (λ w. stays Unknown))
       (λ ok. stays Unusable)
 
   -- a call that has found all that is served
-  pub open-done : usable d s ≡ true → writes s t ≡ true → (p : ℕ) → Opens d s wanted opened tapeFound p → result ≡ served p
+  pub open-done : usable d s ≡ true → writes s t ≡ true → (p : ℕ) → Opens d s wanted o (placeOf s wanted) p → result ≡ served p
   open-done ok w p g =
       open-goes d s t wanted entry fs cache start ok w
-      ∙ on-shaped d s wanted opened tapeFound (g .value) (g .shape)
-      ∙ at-place d s wanted opened tapeFound (g .shut) p (g .place)
-      ∙ in-now d s wanted opened (findName d D.directories wanted) p (g .few) (g .there) (g .fill) (g .more)
+      ∙ on-shaped d s wanted o (placeOf s wanted) (g .value) (g .shape)
+      ∙ at-place d s wanted o (placeOf s wanted) (g .shut) p (g .place)
+      ∙ in-now d s wanted o (findName d D.directories wanted) p (g .few) (g .there) (g .fill) (g .more)
 
-  pub opens-low : (p : ℕ) → Opens d s wanted opened tapeFound p → p < 8
-  opens-low p g = place-low s tapeFound p (λ q e. name-low s S.namesAt wanted q e) (g .place)
+  pub opens-low : (p : ℕ) → Opens d s wanted o (placeOf s wanted) p → p < 8
+  opens-low p g = place-low s (placeOf s wanted) p (λ q e. name-low s S.namesAt wanted q e) (g .place)
 
-  pub opens-shaped : (p : ℕ) → Opens d s wanted opened tapeFound p → Shaped wanted opened
-  opens-shaped p g = shape-done wanted opened (g .value) (g .shape)
+  pub opens-shaped : (p : ℕ) → Opens d s wanted o (placeOf s wanted) p → Shaped wanted o
+  opens-shaped p g = shape-done wanted o (g .value) (g .shape)
 
   -- ---- a refused call changes no byte
 
-  abbrev Same : Outcome → Type 0
-  Same r = codeOf (r .answer) ≢ 0 → (r .disk ≡ d) × (r .session ≡ s)
-
   pub open-refused : codeOf (result .answer) ≢ 0 → (result .disk ≡ d) × (result .session ≡ s)
   unfolding openNow openWith
-  open-refused = open-cases Same (λ why r. (refl, refl)) (λ ok w p g r. absurd (r refl))
+  open-refused = open-cases (Unchanged d s) (λ why r. (refl, refl)) (λ ok w p g r. absurd (r refl))
 
   -- ---- both layout rules and both lengths are kept
 
-  module _ (ok : usable d s ≡ true) (p : ℕ) (g : Opens d s wanted opened tapeFound p) where
+  module _ (ok : usable d s ≡ true) (p : ℕ) (g : Opens d s wanted o (placeOf s wanted) p) where
     abbrev began : ℕ
     began = transactionOf s 16 .epoch
 
@@ -165,17 +174,17 @@ module _ (d s : List ℕ) (t : ℕ) (wanted : List ℕ) (entry fs cache start : 
     found = findName d D.directories wanted
 
     abbrev after : Areas
-    after = readied (areas d s) wanted opened began found
+    after = readied (areas d s) wanted o began found
 
     abbrev with-name : List ℕ
-    with-name = named (areas d s) wanted opened began found p (usable-disk d s ok) (opens-shaped p g .name-short)
+    with-name = named (areas d s) wanted o began found p (usable-disk d s ok) (opens-shaped p g .name-short)
 
     abbrev filled : List ℕ
-    filled = cachedBytes d wanted opened
+    filled = cachedBytes d wanted o
 
     served-disk : D.Sound (served p .disk)
     unfolding openNow openWith
-    served-disk = sound-readied (areas d s) wanted opened began found (usable-disk d s ok) (opens-shaped p g .name-short)
+    served-disk = sound-readied (areas d s) wanted o began found (usable-disk d s ok) (opens-shaped p g .name-short)
 
     served-session : S.Begun (served p .session)
     unfolding openNow openWith
@@ -183,27 +192,16 @@ module _ (d s : List ℕ) (t : ℕ) (wanted : List ℕ) (entry fs cache start : 
         let shaped = opens-shaped p g in
         let low = opens-low p g in
         let short = shaped .name-short in
-        let many = length-cached opened d wanted in
-        let most = cached-most opened in
-        begun-rowed with-name p opened filled low
-        (record {
-          entry-some = shaped .entry-some;
-          entry-small = shaped .entry-small;
-          file-some = shaped .file-some;
-          file-small = shaped .file-small;
-          cache-some = shaped .cache-some;
-          cache-small = shaped .cache-small;
-          within = omega arith;
-        })
-        (begun-putName (after .session) (begun-readied (areas d s) wanted opened began found (usable-disk d s ok) short (usable-begun d s ok)) p wanted low short)
+        begun-rowed with-name p o filled low (row-fits d with-name wanted p o shaped)
+        (begun-putName (after .session) (begun-readied (areas d s) wanted o began found (usable-disk d s ok) short (usable-begun d s ok)) p wanted low short)
 
     served-lengths : (length (served p .disk) ≡ length d) × (length (served p .session) ≡ length s)
     unfolding openNow openWith
     served-lengths =
         let sound = usable-disk d s ok in
         let short = opens-shaped p g .name-short in (
-          length-readied-disk (areas d s) wanted opened began found sound short,
-          length-rowed with-name p opened filled ∙ length-named (areas d s) wanted opened began found p sound short,
+          length-readied-disk (areas d s) wanted o began found sound short,
+          length-rowed with-name p o filled ∙ length-named (areas d s) wanted o began found p sound short,
         )
 
     served-bytes : Bytes d → Bytes s → Bytes wanted → Bytes (served p .disk) × Bytes (served p .session)
@@ -214,14 +212,14 @@ module _ (d s : List ℕ) (t : ℕ) (wanted : List ℕ) (entry fs cache start : 
         let short = shaped .name-short in
         let low = opens-low p g in
         let long = usable-begun d s ok .long in
-        let same = length-named (areas d s) wanted opened began found p sound short in
-        let many = length-cached opened d wanted in
-        let most = cached-most opened in
+        let same = length-named (areas d s) wanted o began found p sound short in
+        let many = length-cached o d wanted in
+        let most = cached-most o in
         let small = shaped .cache-small in (
-          bytes-readied-disk (areas d s) wanted opened began found sound short on-disk new,
-          bytes-rowed with-name p opened filled (omega arith) low (omega arith)
-              (bytes-named (areas d s) wanted opened began found p sound short long low in-session new)
-              (bytes-readRun d wanted (opened .«file_size») on-disk (cachedFrom opened) (cachedCount opened)),
+          bytes-readied-disk (areas d s) wanted o began found sound short on-disk new,
+          bytes-rowed with-name p o filled (omega arith) low (omega arith)
+              (bytes-named (areas d s) wanted o began found p sound short long low in-session new)
+              (bytes-readRun d wanted (o .«file_size») on-disk (cachedFrom o) (cachedCount o)),
         )
 
   abbrev Usable : Outcome → Type 0

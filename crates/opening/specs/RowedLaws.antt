@@ -1,6 +1,5 @@
 -- The row of a tape that is opened: the layout rule is kept, whatever the numbers are that it does not look at, and so is the length. Assumes nothing.
 use mathlib.Core.Path.{_≡_, _∙_}
-use mathlib.Core.Bool.{true}
 use mathlib.Core.List.{List, [], _∷_}
 use Prim.Native.Nat.{ℕ, _+_, _≤_, _<_, _^_}
 use native.Mathlib.Omega.{arith}
@@ -13,11 +12,10 @@ use Rattle.session.specs.Rows.{handleOf, handleWords, putHandle, ringOf, putRin
 use Rattle.session.specs.RowLaws.{length-putHead, only-putHandle, ring-only, only-putStaged, unwritten-same, staged-only, length-fillRing}
 use Rattle.session.specs.KeepLaws.{begun-tape, begun-putHead, begun-fillRing, bytes-putHead, bytes-putHandle, bytes-putStaged}
 use Rattle.session.specs.declared.tape_rows.Handle.{Handle}
-use Rattle.session.specs.declared.tape_rows.Staged.{Staged}
 use Rattle.cached_tape.specs.Filling.{filledWith}
 use Rattle.cached_tape.specs.FillLaws.{length-filled, only-ring, bytes-filled}
 use Rattle.opening.specs.declared.shape.Opening.{Opening}
-use Rattle.opening.specs.Calls.{cachedFrom, nextHandle, rowed}
+use Rattle.opening.specs.Calls.{cachedFrom, rowStaged, rowHandle, rowed}
 
 -- ---- single numbers of a row that was put: those beside them may be of any size
 
@@ -60,12 +58,6 @@ module _ (s : List ℕ) (p capacity first : ℕ) (bs : List ℕ) where
 
 module _ (s : List ℕ) (p : ℕ) (o : Opening) (bs : List ℕ) where
   -- what is put, and what stands after each put
-  abbrev staged-in : Staged
-  staged-in = record { touched = true; base = o .len; len = o .len; start = o .start; unwritten = 0 }
-
-  abbrev handle-in : Handle
-  handle-in = record { number = nextHandle s; entry = o .entry; «file_size» = o .«file_size» }
-
   abbrev row-bytes : List ℕ
   row-bytes = fillRing s p 0 bs
 
@@ -76,18 +68,18 @@ module _ (s : List ℕ) (p : ℕ) (o : Opening) (bs : List ℕ) where
   ring-only-put = only-ring s p (o .cache) (cachedFrom o) bs
 
   abbrev staged-put : List ℕ
-  staged-put = putStaged ring-put p staged-in
+  staged-put = putStaged ring-put p (rowStaged o)
 
   abbrev handle-put : List ℕ
-  handle-put = putHandle staged-put p handle-in
+  handle-put = putHandle staged-put p (rowHandle s o)
 
   only-row : OnlyIn (tapeAt p) (tapeAt p + 96) row-bytes handle-put
   only-row =
       only-then _ _ row-bytes staged-put handle-put
       (only-then _ _ row-bytes ring-put staged-put
       (only-wider _ _ _ _ row-bytes ring-put (omega arith) (omega arith) ring-only-put)
-      (only-wider _ _ _ _ ring-put staged-put (omega arith) (omega arith) (only-putStaged ring-put p staged-in)))
-      (only-wider _ _ _ _ staged-put handle-put (omega arith) (omega arith) (only-putHandle staged-put p handle-in))
+      (only-wider _ _ _ _ ring-put staged-put (omega arith) (omega arith) (only-putStaged ring-put p (rowStaged o))))
+      (only-wider _ _ _ _ staged-put handle-put (omega arith) (omega arith) (only-putHandle staged-put p (rowHandle s o)))
 
   pub length-rowed : length (rowed s p o bs) ≡ length s
   unfolding rowed
@@ -97,12 +89,12 @@ module _ (s : List ℕ) (p : ℕ) (o : Opening) (bs : List ℕ) where
   unfolding rowed
   bytes-rowed long low few old new =
       let l1 : length ring-put ≡ length s = length-filled s p (o .cache) (cachedFrom o) bs in
-      let l2 : length staged-put ≡ length ring-put = only-putStaged ring-put p staged-in .long in
-      let l3 : length handle-put ≡ length staged-put = only-putHandle staged-put p handle-in .long in
+      let l2 : length staged-put ≡ length ring-put = only-putStaged ring-put p (rowStaged o) .long in
+      let l3 : length handle-put ≡ length staged-put = only-putHandle staged-put p (rowHandle s o) .long in
       bytes-putHead handle-put
       (bytes-putHandle staged-put
-      (bytes-putStaged ring-put (bytes-filled s p (o .cache) (cachedFrom o) bs few long low old new) p staged-in (omega arith))
-      p handle-in (omega arith))
+      (bytes-putStaged ring-put (bytes-filled s p (o .cache) (cachedFrom o) bs few long low old new) p (rowStaged o) (omega arith))
+      p (rowHandle s o) (omega arith))
       _ (omega arith)
 
   -- a row in range: its ring is filled with no more than it holds
@@ -124,18 +116,18 @@ module _ (s : List ℕ) (p : ℕ) (o : Opening) (bs : List ℕ) where
         let wide = begun .long in
         let l1 : length row-bytes ≡ length s = length-fillRing s p 0 bs in
         let l2 : length ring-put ≡ length row-bytes = ring-only-put .long in
-        let l3 : length staged-put ≡ length ring-put = only-putStaged ring-put p staged-in .long in
+        let l3 : length staged-put ≡ length ring-put = only-putStaged ring-put p (rowStaged o) .long in
         let after-ring : ringOf handle-put p ≡ ringOf ring-put p
-        = ring-only _ _ staged-put handle-put (only-putHandle staged-put p handle-in) p (λ q. omega arith)
-        ∙ ring-only _ _ ring-put staged-put (only-putStaged ring-put p staged-in) p (λ q. omega arith) in
+        = ring-only _ _ staged-put handle-put (only-putHandle staged-put p (rowHandle s o)) p (λ q. omega arith)
+        ∙ ring-only _ _ ring-put staged-put (only-putStaged ring-put p (rowStaged o)) p (λ q. omega arith) in
         let after-staged : stagedOf handle-put p ≡ stagedOf staged-put p
-        = staged-only _ _ staged-put handle-put (only-putHandle staged-put p handle-in) p (λ q. omega arith) in
-        let entry = entry-put staged-put p handle-in (omega arith) (omega (arith, fits .entry-small)) in
-        let size = size-put staged-put p handle-in (omega arith) (omega (arith, fits .file-small)) in
+        = staged-only _ _ staged-put handle-put (only-putHandle staged-put p (rowHandle s o)) p (λ q. omega arith) in
+        let entry = entry-put staged-put p (rowHandle s o) (omega arith) (omega (arith, fits .entry-small)) in
+        let size = size-put staged-put p (rowHandle s o) (omega arith) (omega (arith, fits .file-small)) in
         let capacity = capacity-filled s p (o .cache) (cachedFrom o) bs (omega arith) (omega arith) in
         let start = start-filled s p (o .cache) (cachedFrom o) bs (omega arith) in
         let len = len-filled s p (o .cache) (cachedFrom o) bs (omega arith) (omega arith) in
-        let unwritten = unwritten-same ring-put p staged-in (omega arith) (omega arith) in
+        let unwritten = unwritten-same ring-put p (rowStaged o) (omega arith) (omega arith) in
         begun-putHead handle-put
         (begun-tape _ _ row-bytes handle-put only-row p low (omega arith) (omega arith) (begun-fillRing s begun p 0 bs (omega arith))
         (rw (after-ring, after-staged)

@@ -28,15 +28,14 @@ use Rattle.seen.specs.Orderly.{Orderly}
 use Rattle.seen.specs.Seen.{Seen, Handled}
 use Rattle.seen.specs.Starts.{CutStarts}
 use Rattle.seen.specs.Begins.{open-kind}
-use Rattle.ended.specs.Closes.{drop-reader-orderly, drop-reader-handled, drop-reader-told, drop-reader-seen}
-use Rattle.ended.specs.Closes.{drop-truncate-orderly, drop-truncate-handled, drop-truncate-told, drop-truncate-seen}
+use Rattle.ended.specs.Closes.{drop-reader-orderly, drop-reader-handled, drop-reader-told, drop-reader-seen, drop-truncate-orderly, drop-truncate-handled, drop-truncate-told, drop-truncate-seen}
 use Rattle.ended.specs.CloseStarts.{drop-reader-starts, drop-truncate-starts}
 use Rattle.ended.specs.DropLeaves.{drop-append-orderly}
 use Rattle.ended.specs.Drops.{drop-append-starts, drop-append-answer, drop-append-seen, drop-append-handles}
 use Rattle.promises.specs.Told.{tellAs, calls}
 use Rattle.promises.specs.Holds.{Holds, moved}
 use Rattle.promises.specs.Standing.{Lore, Running}
-use Rattle.seen.specs.Transactions.{found-transaction}
+use Rattle.seen.specs.Transactions.{HasPlace, found-transaction}
 
 -- the areas have followed, of every tape; a tape that the dropped append had made has no handle any more
 record Dropped (d s u : List ℕ) (k : ℕ) : Type 0 where
@@ -82,10 +81,6 @@ reader-word w =
     picked (λ (x : Kind). x ≡ Kinds.Reader → w ≡ 1) (eqb w 2) Kinds.Append Kinds.Truncate (λ a z. absurd (let q : _≡_ {A = ℕ} 0 1 = cc in omega arith))
     (λ a z. absurd (let q : _≡_ {A = ℕ} 0 1 = cc in omega arith))))
 
-record Finds (s : List ℕ) (k : ℕ) : Type 0 where
-  place : ℕ
-  found : findTransaction s k ≡ At place
-
 either : (s n : List ℕ) (b : Bool) (handle entry : ℕ) → Handled s n (cond b handle 0) entry → Handled s n handle entry ⊎ Handled s n 0 entry
 either s n true handle entry h = inl h
 either s n false handle entry h = inr h
@@ -94,9 +89,9 @@ module _ (d s : List ℕ) (k : ℕ) (K : Lore) (r : Running (areas d s) K) (serv
   abbrev u : List ℕ
   u = dropTransactionCall d s k .session
 
-  finds : Finds s k
+  finds : HasPlace s k
   finds =
-      drop-cases (λ (a : After). codeOf (a .answer) ≡ 0 → Finds s k) d s k (λ why e. absurd (refusal-some why e)) (λ t ok found e. record { place = t; found = found }) served
+      drop-cases (λ (a : After). codeOf (a .answer) ≡ 0 → HasPlace s k) d s k (λ why e. absurd (refusal-some why e)) (λ t ok found e. record { place = t; found = found }) served
 
   of-reader : (t : ℕ) → findTransaction s k ≡ At t → t < 16 → Dropped d s u k
   of-reader t found low =

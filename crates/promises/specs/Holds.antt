@@ -21,7 +21,7 @@ use Rattle.lives.specs.Told.{Told}
 use Rattle.lives.specs.Told as T
 use Rattle.lives.specs.Invariant.{Phys, Good, build}
 use Rattle.lives.specs.Steps.{keeps}
-use Rattle.seen.specs.Seen.{placeOf, liveIn, handleIn, Seen, Handled}
+use Rattle.seen.specs.Seen.{placeOf, isOpenTape, handleIn, Seen, Handled}
 use Rattle.promises.specs.Told.{Known, lastAfter, afterwards}
 
 pub record Holds (n : List ℕ) (a : Areas) (k : Known) : Type 0 where
@@ -136,12 +136,12 @@ module _ (st : Store) (w : ℕ) where
 -- ---- the handle
 
 -- an open tape has a handle, and no other
-live-handle : (s : List ℕ) (tape : Found) → liveIn s tape ≡ not (eqb (handleIn s tape) 0)
+live-handle : (s : List ℕ) (tape : Found) → isOpenTape s tape ≡ not (eqb (handleIn s tape) 0)
 live-handle s (At p) = refl
 live-handle s Nothing = refl
 
 -- a handle is forgotten with its tape
-module _ (s n : List ℕ) (live : Bool) (old handle : ℕ) (is : handleIn s (placeOf s n) ≡ handle) (lives : liveIn s (placeOf s n) ≡ live) where
+module _ (s n : List ℕ) (live : Bool) (old handle : ℕ) (is : handleIn s (placeOf s n) ≡ handle) (lives : isOpenTape s (placeOf s n) ≡ live) where
   live-is : live ≡ not (eqb handle 0)
   live-is = sym lives ∙ live-handle s (placeOf s n) ∙ rw is
 

@@ -1,7 +1,7 @@
 -- What is answered where there is no entry, of a read of one and of a pop; and the length and the start of a tape, in entries. Assumes nothing.
-use mathlib.Core.Path.{_≡_, refl, sym, ap, _∙_, subst}
+use mathlib.Core.Path.{_≡_, refl, sym, ap, _∙_}
 use mathlib.Core.Logic.{_≢_, _⊎_, inl, inr}
-use mathlib.Core.Bool.{Bool, true}
+use mathlib.Core.Bool.{true}
 use mathlib.Core.Option.{some}
 use mathlib.Core.List.{List, []}
 use Prim.Native.Nat.{ℕ, _*_, _/_, _-_, _<_}
@@ -13,26 +13,25 @@ use Rattle.octets.specs.declared.Found.the-variants.{At}
 use Rattle.answers.specs.Outcome.{popping}
 use Rattle.answers.specs.declared.OneEntry.the-variants.{NoEntry}
 use Rattle.layout.specs.Session.{entrySize}
-use Rattle.session.specs.Rows.{transactionOf, findTransaction}
+use Rattle.session.specs.Rows.{findTransaction}
 use Rattle.session.specs.declared.views.View.{View}
 use Rattle.rolling_tape.specs.Removal.{areas}
 use Rattle.staging.specs.Seeing.{cuts, seenBy}
 use Rattle.entries.specs.Laws.{none-outside, pop-of-empty, pop-of-below}
 use Rattle.entries.specs.Popping.{popCall}
 use Rattle.lives.specs.Told.{cutting, Page, page}
-use Rattle.lives.specs.Invariant.{eraseW, isAppend, GoodIf}
-use Rattle.seen.specs.Handles.{Placed, handle-place}
+use Rattle.lives.specs.Invariant.{isAppend}
+use Rattle.seen.specs.Handles.{Placed}
 use Rattle.seen.specs.Kinds.{cuts-as, cuts-open}
 use Rattle.seen.specs.Reads.{viewP, one-place, sight, len-served, start-served}
 use Rattle.promises.specs.Calls.{popEntry, readEntry, tapeLen, tapeStart, result, ofAnswer, ofEntering, ofPopping, step}
 use Rattle.promises.specs.Holds.{Holds}
-use Rattle.promises.specs.Standing.{Lore, Running}
+use Rattle.promises.specs.Standing.{Lore, Running, its-place, its-life}
 use Rattle.promises.specs.Promise.{ends, known, PopsNone, ReadsOneElse, Lengths}
 use Rattle.promises.specs.Runs.{stands-last}
 use Rattle.promises.specs.Reading.{with-handle}
 use Rattle.promises.specs.Outside.{Beyond, beyond-read}
-use Rattle.promises.specs.StaysOpen.{lives}
-use Rattle.promises.specs.CommitsServed.{truncate-cuts}
+use Rattle.promises.specs.CommitsServed.{told-cuts}
 use Rattle.seen.specs.Orderly.{orderly-usable}
 use Rattle.seen.specs.Transactions.{find-transaction}
 
@@ -43,8 +42,7 @@ module _ (d s : List ℕ) (K : Lore) (r : Running (areas d s) K) (n : List ℕ) 
   abbrev e : ℕ
   e = K n .entry
 
-  own : Holds n (areas d s) (K n)
-  own = r .holds n long
+  open Holds (r .holds n long) using (phys, good, seen, handled)
 
   one-else : (i : ℕ) (buffer : List ℕ) (q : Page) → page t (K n .tape) ≡ some q → q .here ≡ true → Beyond e i 1 q
       → step (readEntry t h i buffer) (areas d s) ≡ result 0 0xffff_ffff_ffff_ffff (areas d s) buffer
@@ -55,35 +53,33 @@ module _ (d s : List ℕ) (K : Lore) (r : Running (areas d s) K) (n : List ℕ) 
       → (step (tapeLen t h) (areas d s) ≡ result 0 (length (q .content) / e) (areas d s) []) × (step (tapeStart t h) (areas d s) ≡ result 0 (q .start / e) (areas d s) [])
   unfolding step
   lengths-running q is here = (
-    ap (ofAnswer (areas d s)) (len-served d s n long (r .orderly) (K n .tape) (own .phys) (own .good) (own .seen) h e (own .handled) given (r .starts) t q is here),
-    ap (ofAnswer (areas d s)) (start-served d s n long (r .orderly) (K n .tape) (own .phys) (own .good) (own .seen) h e (own .handled) given (r .starts) t q is here),
+    ap (ofAnswer (areas d s)) (len-served d s n long (r .orderly) (K n .tape) phys good seen h e handled given (r .starts) t q is here),
+    ap (ofAnswer (areas d s)) (start-served d s n long (r .orderly) (K n .tape) phys good seen h e handled given (r .starts) t q is here),
   )
 
   -- in a truncate
   module _ (c : List ℕ) (writer : K n .tape .writer ≡ cutting t c) where
-    its : Placed s n h e
-    its = handle-place d s (r .orderly) n h e (own .handled) given
+    open Placed (its-place (areas d s) K r n long given) using (place, at, found, entry-size)
 
     -- every open tape is listed
     listed : K n .tape .listed ≡ true
-    listed = subst (λ (b : Bool). GoodIf b (K n .tape) (own .phys)) (lives (areas d s) K r n long given) (own .good) .shown (ap isAppend writer)
+    listed = its-life (areas d s) K r n long given .shown (ap isAppend writer)
 
     cutter : cuts s t ≡ true
-    unfolding cuts
-    cutter = truncate-cuts (transactionOf s 16 .kind) (transactionOf s 16 .number) (transactionOf s 16 .epoch) _ t (length c) (own .seen .writer ∙ ap (eraseW (K n .tape .epoch)) writer)
+    cutter = told-cuts d s n (K n .tape) phys seen t c writer
 
     abbrev cut-page : Page
     cut-page = record { here = true; start = K n .tape .start; content = c }
 
-    view : seenBy s 16 (its .place) ≡ viewP cut-page
+    view : seenBy s 16 place ≡ viewP cut-page
     view =
         let is : page t (K n .tape) ≡ some cut-page = rw (writer, eq-eqb t t refl, listed) in
-        let x = sight d s n (r .orderly) (r .starts) (K n .tape) (own .phys) (own .seen) (its .place) (its .at) t cut-page is refl in
+        let x = sight d s n (r .orderly) (r .starts) (K n .tape) phys seen place at t cut-page is refl in
         let there : findTransaction s t ≡ At 16 = find-transaction d s (r .orderly) t 16 (record { low = omega arith; opened = cuts-open s t cutter; number = cuts-as s t cutter }) in
-        ap (λ (y : ℕ). seenBy s y (its .place)) (one-place (findTransaction s t) 16 (x .place) there (x .found)) ∙ x .view
+        ap (λ (y : ℕ). seenBy s y place) (one-place (findTransaction s t) 16 (x .place) there (x .found)) ∙ x .view
 
-    many : seenBy s 16 (its .place) .len / entrySize s (its .place) ≡ length c / e
-    many = rw (view, its .entry-size)
+    many : seenBy s 16 place .len / entrySize s place ≡ length c / e
+    many = rw (view, entry-size)
 
     low : (length c / e ≡ 0) ⊎ ((length c / e - 1) * e < K n .tape .start) → length c / e ≢ 0 → (length c / e - 1) * e < K n .tape .start
     low (inl z) one = absurd (one z)
@@ -92,12 +88,12 @@ module _ (d s : List ℕ) (K : Lore) (r : Running (areas d s) K) (n : List ℕ) 
     none-popped : (buffer : List ℕ) → (length c / e ≡ 0) ⊎ ((length c / e - 1) * e < K n .tape .start) → popCall d s t h buffer ≡ popping NoEntry s buffer
     none-popped buffer why =
         let ok = orderly-usable d s (r .orderly) in
-        let here : seenBy s 16 (its .place) .listed ≡ true = ap (λ (v : View). v .listed) view in
-        let first : seenBy s 16 (its .place) .start ≡ K n .tape .start = ap (λ (v : View). v .start) view in
-        let last : (seenBy s 16 (its .place) .len / entrySize s (its .place) - 1) * entrySize s (its .place) ≡ (length c / e - 1) * e = rw (many, its .entry-size) in
+        let here : seenBy s 16 place .listed ≡ true = ap (λ (v : View). v .listed) view in
+        let first : seenBy s 16 place .start ≡ K n .tape .start = ap (λ (v : View). v .start) view in
+        let last : (seenBy s 16 place .len / entrySize s place - 1) * entrySize s place ≡ (length c / e - 1) * e = rw (many, entry-size) in
         equal (length c / e) 0
-        (λ (z : length c / e ≡ 0). pop-of-empty d s t h buffer ok cutter (its .place) (its .found) here (many ∙ z))
-        (λ one. pop-of-below d s t h buffer ok cutter (its .place) (its .found) here (λ z. one (sym many ∙ z)) (rw (last, first) (low why one)))
+        (λ (z : length c / e ≡ 0). pop-of-empty d s t h buffer ok cutter place found here (many ∙ z))
+        (λ one. pop-of-below d s t h buffer ok cutter place found here (λ z. one (sym many ∙ z)) (rw (last, first) (low why one)))
 
     pops-running : (buffer : List ℕ) → (length c / e ≡ 0) ⊎ ((length c / e - 1) * e < K n .tape .start)
         → step (popEntry t h buffer) (areas d s) ≡ result 0 0xffff_ffff_ffff_ffff (areas d s) buffer

@@ -13,6 +13,7 @@ use Rattle.octets.specs.Number.{Bytes}
 use Rattle.octets.specs.declared.Found.{Found}
 use Rattle.octets.specs.declared.Found.the-variants.{At, Nothing}
 use Rattle.answers.specs.Answers.{codeOf, valueOf}
+use Rattle.layout.specs.NamesLaws.{name-low}
 use Rattle.layout.specs.Session.{namesAt}
 use Rattle.session.specs.declared.views.View.{View}
 use Rattle.session.specs.Rows.{viewOf, transactionOf, stagedOf}
@@ -24,8 +25,8 @@ use Rattle.lives.specs.Life as L
 use Rattle.lives.specs.Told.{Staging, idle, appending, cutting, isHere}
 use Rattle.lives.specs.Invariant.{build, eraseW}
 use Rattle.seen.specs.Orderly.{Orderly}
-use Rattle.seen.specs.Seen.{placeOf, shown, stagedIn, writerIn, viewIn, Seen, Handled}
-use Rattle.seen.specs.Places.{found-low}
+use Rattle.seen.specs.Seen.{placeOf, stagedIn, writerIn, viewIn, Seen, Handled}
+use Rattle.seen.specs.Shown.{shown-keeps}
 use Rattle.opened.specs.OpensServed.{open-served}
 use Rattle.opened.specs.Opens.{openMemory, open-answers, open-orderly, open-writer, open-seen-other, open-handled-other, open-handled, open-seen, open-steps}
 use Rattle.promises.specs.Told.{Concern, apart, opens, tellAs, oldSize}
@@ -35,22 +36,16 @@ use Rattle.promises.specs.Standing.{Lore, Running}
 -- ---- an append sees what is listed
 
 module _ (d s n : List ℕ) (o : Orderly d s) (st : L.Store) (seen : Seen d s n st) (going : isOpenAt s 16 ≡ true) (listed : st .listed ≡ true) where
-  shown-listed : (v : View) → v .listed ≡ true → shown v .listed ≡ true
-  shown-listed v e = rw e
-
-  listed-shown : (v : View) → shown v .listed ≡ true → v .listed ≡ true
-  listed-shown v = picked (λ (x : View). x .listed ≡ true → v .listed ≡ true) (v .listed) v _ (λ e h. h) (λ e h. absurd (false≢true h))
-
   listed-staged : stagedIn s (placeOf s n) .listed ≡ true
   unfolding seenBy
   listed-staged = by (placeOf s n) refl (ap (λ (v : View). v .listed) (seen .list) ∙ listed)
     where
       by : (found : Found) → placeOf s n ≡ found → viewIn s 17 found .listed ≡ true → stagedIn s found .listed ≡ true
       by (At p) e here =
-          shown-listed (seenBy s 16 p)
-          (picked (λ (v : View). v .listed ≡ true) (stagedOf s p .touched) (record { listed = true; len = stagedOf s p .len; start = stagedOf s p .start }) (viewOf s 16 p)
+          shown-keeps (seenBy s 16 p)
+          ∙ (picked (λ (v : View). v .listed ≡ true) (stagedOf s p .touched) (record { listed = true; len = stagedOf s p .len; start = stagedOf s p .start }) (viewOf s 16 p)
           (λ t. refl)
-          (λ t. ap (λ (v : View). v .listed) (o .writer-view going p (found-low s namesAt n p e)) ∙ listed-shown (viewOf s 17 p) here))
+          (λ t. ap (λ (v : View). v .listed) (o .writer-view going p (name-low s namesAt n p e)) ∙ sym (shown-keeps (viewOf s 17 p)) ∙ here))
       by Nothing e here = absurd (false≢true here)
 
 -- a writer that is erased to an append is that append

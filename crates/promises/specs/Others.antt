@@ -15,10 +15,9 @@ use Rattle.beginning.specs.Laws.{refusal-some}
 use Rattle.appending.specs.Calls.{putCall}
 use Rattle.rolling_tape.specs.Removal.{areas}
 use Rattle.lives.specs.Told.{appending, cutting, Page, page}
-use Rattle.seen.specs.Handles.{handle-place}
 use Rattle.seen.specs.Reads.{entry-served, pop-served, put-answer}
 use Rattle.promises.specs.Calls.{appendEntries, popEntry, readEntry, Result, result, ofEntering, ofPopping, step}
-use Rattle.promises.specs.Standing.{Lore, Running}
+use Rattle.promises.specs.Standing.{Lore, Running, its-place}
 use Rattle.promises.specs.Promise.{ends, known, ReadsOne, Pops}
 use Rattle.promises.specs.Runs.{stands-last}
 use Rattle.promises.specs.Reading.{front, with-handle}
@@ -53,7 +52,7 @@ module _ (d s : List ℕ) (K : Lore) (r : Running (areas d s) K) (n : List ℕ) 
       let h = r .holds n long in
       let e = K n .entry in
       let last = length c / e - 1 in
-      let its = handle-place d s (r .orderly) n (K n .handle) e (h .handled) handle in
+      let its = its-place (areas d s) K r n long handle in
       let up : (last + 1) * e ≡ length c / e * e = ap (λ (m : ℕ). m * e) (omega arith) in
       let inside : last * e + e ≤ length c = omega (arith, up, add-mul last 1 e, one-mul e, div-mul-le-self (length c) e) in
       let is = ap (ofPopping d)

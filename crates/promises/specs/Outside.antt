@@ -30,27 +30,24 @@ use Rattle.staging.specs.Ways.{seen-view}
 use Rattle.entries.specs.Reads.{readCall}
 use Rattle.entries.specs.Ways.{read-no-transaction, read-goes, read-absent, read-outside}
 use Rattle.lives.specs.Life.{Reader, Writer}
-use Rattle.lives.specs.Told.{Window, Staging, idle, appending, cutting, Told, Page, pageIn, pageOf, page}
-use Rattle.lives.specs.Invariant.{Phys, erase, eraseW, build, Staged, Live, GoodIf}
+use Rattle.lives.specs.Told.{Window, Staging, idle, appending, cutting, Told, Page, pageW, pageIn, pageOf, page}
+use Rattle.lives.specs.Invariant.{Phys, erase, eraseW, build, Staged, Live}
 use Rattle.seen.specs.Seen.{placeOf, shown, readerIn, writerAs, countIn, Seen}
 use Rattle.seen.specs.Orderly.{Orderly, orderly-usable}
 use Rattle.seen.specs.Shown.{shown-keeps}
-use Rattle.seen.specs.Counts.{in-none, in-hit, in-miss, open-some, open-place}
-use Rattle.seen.specs.Handles.{Placed, handle-place, live-at}
+use Rattle.seen.specs.Counts.{in-none, in-miss, isNumber, page-counted, open-some, open-place}
+use Rattle.seen.specs.Handles.{Placed}
 use Rattle.seen.specs.Waits.{idle-seen}
 use Rattle.seen.specs.Reads.{viewP, sight}
 use Rattle.promises.specs.Calls.{readEntries, step}
 use Rattle.promises.specs.Holds.{Holds}
-use Rattle.promises.specs.Standing.{Lore, Running}
+use Rattle.promises.specs.Standing.{Lore, Running, its-place, its-life}
 use Rattle.promises.specs.Promise.{ends, known, ReadsElse}
 use Rattle.promises.specs.Runs.{stands-last}
 use Rattle.promises.specs.Reading.{with-handle}
 use Rattle.seen.specs.Transactions.{found-transaction, find-transaction}
 
 -- ---- windows with no page, and with one that is not here
-
-abbrev isNumber : ℕ → Reader → Bool
-isNumber k r = eqb k (r .number)
 
 abbrev isHidden : ℕ → Reader → Bool
 isHidden k r = eqb k (r .number) && not (r .here)
@@ -59,25 +56,14 @@ none-numbered : (k : ℕ) (ws : List Window) → pageIn k ws ≡ none → countI
 unfolding pageIn
 none-numbered k [] = λ e. in-none (isNumber k)
 none-numbered k (w ∷ ws) =
-    picked (λ (x : Option Page). x ≡ none → countIn (isNumber k) (map erase (w ∷ ws)) ≡ 0) (eqb k (w .number))
-    (some (record { here = w .here; start = w .start; content = w .content })) (pageIn k ws)
+    picked (λ (x : Option Page). x ≡ none → countIn (isNumber k) (map erase (w ∷ ws)) ≡ 0) (eqb k (w .number)) (some (pageW w)) (pageIn k ws)
     (λ m e. absurd (Option·none-ne-some _ (sym e)))
     (λ m e. in-miss (isNumber k) (erase w) (map erase ws) m ∙ none-numbered k ws e)
 
-hidden-counted : (k : ℕ) (q : Page) → q .here ≡ false → (ws : List Window) → pageIn k ws ≡ some q → 0 < countIn (isHidden k) (map erase ws)
-unfolding pageIn
-hidden-counted k q hidden [] = λ e. absurd (Option·none-ne-some q e)
-hidden-counted k q hidden (w ∷ ws) =
-    picked (λ (x : Option Page). x ≡ some q → 0 < countIn (isHidden k) (map erase (w ∷ ws))) (eqb k (w .number))
-    (some (record { here = w .here; start = w .start; content = w .content })) (pageIn k ws)
-    (λ m e.
-    let own : record { here = w .here; start = w .start; content = w .content } ≡ q = Option·some-injective _ _ e in
+is-hidden : (k : ℕ) (q : Page) → q .here ≡ false → (w : Window) → eqb k (w .number) ≡ true → pageW w ≡ q → isHidden k (erase w) ≡ true
+is-hidden k q hidden w m own =
     let unseen : w .here ≡ false = ap (λ (x : Page). x .here) own ∙ hidden in
-    let is : isHidden k (erase w) ≡ true = rw (m, unseen) in
-    omega (arith, in-hit (isHidden k) (erase w) (map erase ws) is))
-    (λ m e.
-    let is : isHidden k (erase w) ≡ false = rw m in
-    omega (arith, hidden-counted k q hidden ws e, in-miss (isHidden k) (erase w) (map erase ws) is))
+    rw (m, unseen)
 
 -- ---- the writer's number
 
@@ -145,7 +131,7 @@ record Blind (s : List ℕ) (k p : ℕ) : Type 0 where
 module _ (d s n : List ℕ) (o : Orderly d s) (t : Told) (p : Phys) (seen : Seen d s n (build t p)) (a : ℕ) (at : placeOf s n ≡ At a) where
   window-blind : (k : ℕ) (q : Page) → pageIn k (t .windows) ≡ some q → q .here ≡ false → Blind s k a
   window-blind k q is hidden =
-      let found = open-some (isHidden k) s (placeOf s n) (omega (arith, seen .readers (isHidden k), hidden-counted k q hidden (t .windows) is)) in
+      let found = open-some (isHidden k) s (placeOf s n) (omega (arith, seen .readers (isHidden k), page-counted (isHidden k) k q (is-hidden k q hidden) (t .windows) is)) in
       let x = found .place in
       let both : isHidden k (readerIn s (At a) x) ≡ true = subst (λ (f : Found). isHidden k (readerIn s f x) ≡ true) at (found .holds) in
       let number : k ≡ transactionOf s x .number = eqb-true k (transactionOf s x .number) (and-l (eqb k (transactionOf s x .number)) _ both) in
@@ -187,36 +173,27 @@ beyond entry i count q (inl low) = out-below entry (q .start) (length (q .conten
 beyond entry i count q (inr high) = out-past entry (q .start) (length (q .content)) i count (omega (arith, add-mul i count entry))
 
 module _ (d s : List ℕ) (K : Lore) (r : Running (areas d s) K) (n : List ℕ) (long : 0 < length n) (given : K n .handle ≢ 0) (t i count : ℕ) (buffer : List ℕ) where
-  own : Holds n (areas d s) (K n)
-  own = r .holds n long
-
-  its : Placed s n (K n .handle) (K n .entry)
-  its = handle-place d s (r .orderly) n (K n .handle) (K n .entry) (own .handled) given
-
-  live : K n .tape .live ≡ true
-  live = sym (own .seen .live) ∙ live-at s n (its .place) (its .at) (λ z. given (sym (its .number) ∙ z))
-
-  alive : Live (K n .tape) (own .phys)
-  alive = subst (λ (b : Bool). GoodIf b (K n .tape) (own .phys)) live (own .good)
+  open Holds (r .holds n long) using (phys, seen)
+  open Placed (its-place (areas d s) K r n long given) using (place, at, found, entry-size)
 
   ok : usable d s ≡ true
   ok = orderly-usable d s (r .orderly)
 
   unknown-read : page t (K n .tape) ≡ none → readCall d s t (K n .handle) i count buffer ≡ refusedRead Unknown buffer
-  unknown-read is = read-no-transaction d s t (K n .handle) i count buffer ok (none-found d s n (r .orderly) (K n .tape) (own .phys) (own .seen) t is)
+  unknown-read is = read-no-transaction d s t (K n .handle) i count buffer ok (none-found d s n (r .orderly) (K n .tape) phys seen t is)
 
   module _ (q : Page) (is : page t (K n .tape) ≡ some q) where
     absent-read : q .here ≡ false → readCall d s t (K n .handle) i count buffer ≡ refusedRead Absent buffer
     absent-read hidden =
-        let x = blind d s n (r .orderly) (K n .tape) (own .phys) (own .seen) (its .place) (its .at) alive t q is hidden in
-        read-goes d s t (K n .handle) i count buffer ok (x .place) (x .found) (its .place) (its .found)
-        ∙ read-absent d s (x .place) (its .place) i count buffer _ refl (x .unlisted)
+        let x = blind d s n (r .orderly) (K n .tape) phys seen place at (its-life (areas d s) K r n long given) t q is hidden in
+        read-goes d s t (K n .handle) i count buffer ok (x .place) (x .found) place found
+        ∙ read-absent d s (x .place) place i count buffer _ refl (x .unlisted)
 
     pub beyond-read : q .here ≡ true → Beyond (K n .entry) i count q → readCall d s t (K n .handle) i count buffer ≡ refusedRead OutOfBounds buffer
     beyond-read here far =
-        let x = sight d s n (r .orderly) (r .starts) (K n .tape) (own .phys) (own .seen) (its .place) (its .at) t q is here in
-        read-goes d s t (K n .handle) i count buffer ok (x .place) (x .found) (its .place) (its .found)
-        ∙ read-outside d s (x .place) (its .place) i count buffer (viewP q) (sym (x .view)) (K n .entry) (sym (its .entry-size)) refl (beyond (K n .entry) i count q far)
+        let x = sight d s n (r .orderly) (r .starts) (K n .tape) phys seen place at t q is here in
+        read-goes d s t (K n .handle) i count buffer ok (x .place) (x .found) place found
+        ∙ read-outside d s (x .place) place i count buffer (viewP q) (sym (x .view)) (K n .entry) (sym entry-size) refl (beyond (K n .entry) i count q far)
 
   abbrev code : ℕ
   code = step (readEntries t (K n .handle) i count buffer) (areas d s) .code

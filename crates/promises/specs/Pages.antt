@@ -3,8 +3,8 @@
 use mathlib.Core.Path.{_≡_, refl, sym, ap, _∙_, subst}
 use mathlib.Core.Logic.{_≢_, inl}
 use mathlib.Core.Bool.{Bool, true, false, false≢true}
-use mathlib.Core.Option.{Option, some, Option·none-ne-some, Option·some-injective}
-use mathlib.Core.List.{List, [], _∷_, _++_, map}
+use mathlib.Core.Option.{some, Option·none-ne-some, Option·some-injective}
+use mathlib.Core.List.{List, [], _∷_, _++_}
 use Prim.Native.Nat.{ℕ, _+_, _*_, _≤_, _<_}
 use native.Mathlib.Nat.{add-mul}
 use native.Mathlib.Omega.{arith}
@@ -15,36 +15,31 @@ use lib.Seq.{take-append-seam}
 use Rattle.octets.specs.Cases.{picked, decide}
 use Rattle.octets.specs.declared.Found.{Found}
 use Rattle.octets.specs.declared.Found.the-variants.{At, Nothing}
+use Rattle.layout.specs.NamesLaws.{name-low}
 use Rattle.layout.specs.Session.{namesAt}
-use Rattle.session.specs.declared.transactions.Kind.{Kind}
-use Rattle.session.specs.declared.transactions.Kind.the-variants as K
 use Rattle.session.specs.declared.views.View.{View}
-use Rattle.session.specs.MeaningLaws as M
 use Rattle.session.specs.Rows.{viewOf, transactionOf}
 use Rattle.rolling_tape.specs.Removal.{Areas}
 use Rattle.beginning.specs.Transactions.{isOpenAt}
-use Rattle.lives.specs.Life.{Reader, Writer}
+use Rattle.lives.specs.Life.{Reader}
 use Rattle.lives.specs.Life as L
-use Rattle.lives.specs.Told.{Window, Staging, idle, appending, cutting, Told, closed, toldCommit, toldDrop, Page, pageIn, pageOf, page}
+use Rattle.lives.specs.Told.{Window, Staging, idle, appending, cutting, Told, closed, toldCommit, toldDrop, Page, pageW, pageIn, pageOf, page}
 use Rattle.lives.specs.Told as T
-use Rattle.lives.specs.Invariant.{erase, eraseW}
-use Rattle.seen.specs.Seen.{placeOf, shown, viewIn, writerAs, countIn, Handled}
-use Rattle.seen.specs.Counts.{in-hit, in-miss, AtPlace, open-some}
-use Rattle.seen.specs.Places.{found-low}
-use Rattle.seen.specs.Begins.{open-kind}
+use Rattle.lives.specs.Invariant.{erase}
+use Rattle.seen.specs.Seen.{placeOf, viewIn, Handled}
+use Rattle.seen.specs.Counts.{isNumber, page-counted, AtPlace, open-some}
+use Rattle.seen.specs.Shown.{shown-keeps}
 use Rattle.seen.specs.Reads.{read-served}
 use Rattle.promises.specs.Calls.{readEntries, Result, result, ofReading, step}
 use Rattle.promises.specs.Told.{Known, unknown, Concern, apart, anew, opens, calls, tellAs}
-use Rattle.promises.specs.Standing.{Lore, Running, Standing, running, formatted}
+use Rattle.promises.specs.Standing.{Lore, Running, Standing, running, formatted, running-last}
 use Rattle.promises.specs.Promise.{ends, known, endsThen, knownThen, isOpen, isWriter, PageStands, ReadsAgain}
 use Rattle.promises.specs.Runs.{stands-last, stands-then}
 use Rattle.promises.specs.Reading.{front, with-handle, reads}
-use Rattle.promises.specs.StaysOpen.{KeepsCall, KeepsTape, KeptOpen, lasts, numbered, handle-kept}
+use Rattle.promises.specs.CommitsServed.{told-open}
+use Rattle.promises.specs.StaysOpen.{KeepsCall, KeepsTape, KeptOpen, lasts, handle-kept}
 
 -- ---- a window in a running session
-
-abbrev pageW : Window → Page
-pageW w = record { here = w .here; start = w .start; content = w .content }
 
 record Shows (t : ℕ) (ws : List Window) : Type 0 where
   shows : Page
@@ -62,35 +57,6 @@ none-shown : (t : ℕ) (q : Page) → pageIn t (unknown .tape .windows) ≡ some
 unfolding unknown T.nothing pageIn
 none-shown t q e = Option·none-ne-some q e
 
--- a window that shows the page is counted, by whatever such a window has
-counted : (has : Reader → Bool) (t : ℕ) (q : Page) → ((w : Window) → eqb t (w .number) ≡ true → w .here ≡ q .here → has (erase w) ≡ true)
-    → (ws : List Window) → pageIn t ws ≡ some q → 0 < countIn has (map erase ws)
-unfolding pageIn
-counted has t q hits [] = λ e. absurd (Option·none-ne-some q e)
-counted has t q hits (w ∷ ws) =
-    picked (λ (x : Option Page). x ≡ some q → 0 < countIn has (map erase (w ∷ ws))) (eqb t (w .number)) (some (pageW w)) (pageIn t ws)
-    (λ m e. omega (arith, in-hit has (erase w) (map erase ws) (hits w m (ap (λ (x : Page). x .here) (Option·some-injective _ _ e)))))
-    (λ m e.
-    let rest = counted has t q hits ws e in
-    decide (has (erase w)) (λ h. omega (arith, in-hit has (erase w) (map erase ws) h)) (λ h. omega (arith, in-miss has (erase w) (map erase ws) h)))
-
--- the number of the open writer, there and here
-abbrev isWriterIn : ℕ → Writer → Bool
-isWriterIn t L.idle = false
-isWriterIn t (L.appending m e h l s) = eqb t m
-isWriterIn t (L.cutting m l) = eqb t m
-
-erased-writer : (t epoch : ℕ) (w : Staging) → isWriterIn t (eraseW epoch w) ≡ isWriter t w
-erased-writer t epoch idle = refl
-erased-writer t epoch (appending m h c s) = refl
-erased-writer t epoch (cutting m c) = refl
-
-writer-number : (t : ℕ) (k : Kind) (number epoch : ℕ) (v : View) → isWriterIn t (writerAs k number epoch v) ≡ true → (M.isOpen k ≡ true) × (number ≡ t)
-writer-number t K.Closed number epoch v e = absurd (false≢true e)
-writer-number t K.Reader number epoch v e = absurd (false≢true e)
-writer-number t K.Append number epoch v e = (refl, sym (eqb-true t number e))
-writer-number t K.Truncate number epoch v e = (refl, sym (eqb-true t number e))
-
 writer-page : (t : ℕ) (tape : Told) (x : Staging) → isWriter t x ≡ false → pageOf t tape x ≡ pageIn t (tape .windows)
 writer-page t tape idle e = refl
 writer-page t tape (appending m h c s) e = rw e
@@ -101,20 +67,20 @@ module _ (a : Areas) (K : Lore) (r : Running a K) (n : List ℕ) (long : 0 < len
   s = a .session
 
   -- its place in the table
-  at-place : (has : Reader → Bool) → ((w : Window) → eqb t (w .number) ≡ true → w .here ≡ q .here → has (erase w) ≡ true) → AtPlace has s (placeOf s n)
+  at-place : (has : Reader → Bool) → ((w : Window) → eqb t (w .number) ≡ true → pageW w ≡ q → has (erase w) ≡ true) → AtPlace has s (placeOf s n)
   at-place has hits =
       let h = r .holds n long in
-      open-some has s (placeOf s n) (omega (arith, h .seen .readers has, counted has t q hits (K n .tape .windows) is))
+      open-some has s (placeOf s n) (omega (arith, h .seen .readers has, page-counted has t q hits (K n .tape .windows) is))
 
-  numbers : AtPlace (λ x. eqb t (x .number)) s (placeOf s n)
-  numbers = at-place (λ x. eqb t (x .number)) (λ w e h. e)
+  numbers : AtPlace (isNumber t) s (placeOf s n)
+  numbers = at-place (isNumber t) (λ w e shows. e)
 
   -- its number was given
   window-old : t ≤ K n .last
   window-old =
       let p = numbers in
       let number : t ≡ transactionOf s (p .place) .number = eqb-true t _ (p .holds) in
-      omega (arith, number, r .orderly .number-given (p .place) (omega (arith, p .low)) (p .opened), numbered (a .disk) s K r n long)
+      omega (arith, number, r .orderly .number-given (p .place) (omega (arith, p .low)) (p .opened), running-last a K r n long)
 
   -- and no writer has it
   window-apart : isWriter t (K n .tape .writer) ≡ false
@@ -123,9 +89,8 @@ module _ (a : Areas) (K : Lore) (r : Running a K) (n : List ℕ) (long : 0 < len
       (λ (e : isWriter t (K n .tape .writer) ≡ true).
       let h = r .holds n long in
       let p = numbers in
-      let w = writer-number t (transactionOf s 16 .kind) (transactionOf s 16 .number) (transactionOf s 16 .epoch) _
-      (ap (isWriterIn t) (h .seen .writer) ∙ erased-writer t (K n .tape .epoch) (K n .tape .writer) ∙ e) in
-      let same = r .orderly .numbers (p .place) 16 (omega (arith, p .low)) (omega arith) (p .opened) (open-kind s 16 ∙ w .0) (sym (eqb-true t _ (p .holds)) ∙ sym (w .1)) in
+      let w = told-open (a .disk) s n (K n .tape) (h .phys) (h .seen) t (K n .tape .writer) refl e in
+      let same = r .orderly .numbers (p .place) 16 (omega (arith, p .low)) (omega arith) (p .opened) (w .0) (sym (eqb-true t _ (p .holds)) ∙ sym (w .1)) in
       absurd (omega (arith, p .low, same)))
       (λ e. e)
 
@@ -135,18 +100,12 @@ module _ (a : Areas) (K : Lore) (r : Running a K) (n : List ℕ) (long : 0 < len
   -- what it sees is listed
   window-listed : q .here ≡ true → K n .tape .listed ≡ true
   window-listed here =
-      let p = at-place (λ x. x .here) (λ w e h. h ∙ here) in
+      let p = at-place (λ x. x .here) (λ w e shows. ap (λ (x : Page). x .here) shows ∙ here) in
       let h = r .holds n long in
       sym (ap (λ (v : View). v .listed) (h .seen .list)) ∙ by (p .place) (p .low) (p .opened) (placeOf s n) refl (p .holds)
     where
-      shows : (v : View) → v .listed ≡ true → shown v .listed ≡ true
-      shows v e = rw e
-
-      shown-shows : (v : View) → shown v .listed ≡ true → v .listed ≡ true
-      shown-shows v = picked (λ (x : View). x .listed ≡ true → v .listed ≡ true) (v .listed) v _ (λ e h. h) (λ e h. absurd (false≢true h))
-
       by : (x : ℕ) → x < 16 → isOpenAt s x ≡ true → (found : Found) → placeOf s n ≡ found → viewIn s x found .listed ≡ true → viewIn s 17 found .listed ≡ true
-      by x low opened (At p) e h = shows (viewOf s 17 p) (r .orderly .views x low opened p (found-low s namesAt n p e) (shown-shows (viewOf s x p) h))
+      by x low opened (At p) e h = shown-keeps (viewOf s 17 p) ∙ r .orderly .views x low opened p (name-low s namesAt n p e) (sym (shown-keeps (viewOf s x p)) ∙ h)
       by x low opened Nothing e h = absurd (false≢true h)
 
 -- ---- a window stays

@@ -1,17 +1,21 @@
 -- What holds of the areas, and of what is told of every tape, after any calls: a session runs and all is in order, or the disk is formatted and no session was
--- begun. Assumes nothing.
-use mathlib.Core.Path.{_≡_, sym, subst}
-use mathlib.Core.Bool.{false}
+-- begun. And in a running session, of the tape of a name: its last number, its place and its life. Assumes nothing.
+use mathlib.Core.Path.{_≡_, sym, subst, _∙_}
+use mathlib.Core.Logic.{_≢_}
+use mathlib.Core.Bool.{Bool, true, false}
 use mathlib.Core.List.{List}
 use Prim.Native.Nat.{ℕ, _<_}
 use lib.ListN.{length}
 use Rattle.octets.specs.Number.{Bytes}
 use Rattle.layout.specs.Session.{begun}
 use Rattle.disk.specs.Meaning.{diskOf, blank}
+use Rattle.session.specs.Rows.{headOf}
 use Rattle.rolling_tape.specs.Removal.{Areas}
+use Rattle.lives.specs.Invariant.{Live, GoodIf}
 use Rattle.seen.specs.Orderly.{Orderly}
 use Rattle.seen.specs.Starts.{CutStarts}
 use Rattle.seen.specs.Restarts.{OrderlyDisk}
+use Rattle.seen.specs.Handles.{Placed, handle-place, live-at}
 use Rattle.promises.specs.Told.{Known, unknown}
 use Rattle.promises.specs.Holds.{Holds}
 
@@ -52,3 +56,21 @@ standing-same a b K M e same (formatted r) =
       unbegun = r .unbegun;
       untold = λ n long. subst (λ (k : Known). k ≡ unknown) (sym (same n)) (r .untold n long);
     }))
+
+-- ---- of the tape of a name, in a running session
+
+module _ (a : Areas) (K : Lore) (r : Running a K) (n : List ℕ) (long : 0 < length n) where
+  -- the last number
+  pub running-last : headOf (a .session) .«last_transaction» ≡ K n .last
+  running-last = r .holds n long .seen .last ∙ r .holds n long .last
+
+  -- a tape with a handle has its place, and is open
+  module _ (given : K n .handle ≢ 0) where
+    pub its-place : Placed (a .session) n (K n .handle) (K n .entry)
+    its-place = handle-place (a .disk) (a .session) (r .orderly) n (K n .handle) (K n .entry) (r .holds n long .handled) given
+
+    pub lives : K n .tape .live ≡ true
+    lives = let at = its-place in sym (r .holds n long .seen .live) ∙ live-at (a .session) n (at .place) (at .at) (λ z. given (sym (at .number) ∙ z))
+
+    pub its-life : Live (K n .tape) (r .holds n long .phys)
+    its-life = subst (λ (b : Bool). GoodIf b (K n .tape) (r .holds n long .phys)) lives (r .holds n long .good)

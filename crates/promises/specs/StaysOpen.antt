@@ -14,7 +14,6 @@ use Rattle.octets.specs.declared.Found.{Found}
 use Rattle.octets.specs.declared.Found.the-variants.{At, Nothing}
 use Rattle.answers.specs.Answers.{codeOf, valueOf}
 use Rattle.layout.specs.Session.{handleNumber}
-use Rattle.session.specs.Rows.{headOf}
 use Rattle.rolling_tape.specs.Removal.{Areas, areas}
 use Rattle.beginning.specs.Transactions.{isOpenAt}
 use Rattle.beginning.specs.Laws.{refusal-some, append-cases, truncate-cases}
@@ -25,11 +24,10 @@ use Rattle.lives.specs.Told as T
 use Rattle.lives.specs.Invariant.{build, eraseW}
 use Rattle.seen.specs.Seen.{placeOf, handleIn}
 use Rattle.seen.specs.Begins.{seen-idle, reader-done}
-use Rattle.seen.specs.Handles.{handle-place, live-at}
 use Rattle.opened.specs.OpensServed.{open-served}
 use Rattle.promises.specs.Calls.{Call, format, store, append, reader, truncate, openTape, appendEntries, shiftStart, truncateTape, dropEntries, popEntry, readEntries, readEntry, tapeLen, tapeStart, tapeExists, commit, dropTransaction, Fits, AllFit, perform, step, exchange, history}
 use Rattle.promises.specs.Told.{Known, unknown, Concern, apart, anew, opens, calls, concerns, isOurs, ifOurs, entriesLeft, tellAs, tellOne, tell, OldSizes}
-use Rattle.promises.specs.Standing.{Lore, Running, Standing, running, formatted}
+use Rattle.promises.specs.Standing.{Lore, Running, Standing, running, formatted, running-last, lives}
 use Rattle.promises.specs.Promise.{isWriter, AllServed, keepsOpen}
 use Rattle.promises.specs.Steps.{stands, tell-served, tell-refused}
 
@@ -72,10 +70,6 @@ module _ (d s : List ℕ) (K : Lore) (r : Running (areas d s) K) (n : List ℕ) 
       let h = r .holds n long in
       erased-idle (K n .tape .epoch) (K n .tape .writer) (seen-idle d s n (build (K n .tape) (h .phys)) (h .seen) free)
 
-  -- the last number
-  pub numbered : headOf s .«last_transaction» ≡ K n .last
-  numbered = let h = r .holds n long in h .seen .last ∙ h .last
-
   module _ (t : ℕ) where
     ours-lasts : (v h : ℕ) (c : L.TapeCall) → KeepsCall t (K n) v c → KeepsTape t (K n) v (ifOurs (K n) h c)
     ours-lasts v h c l = picked (KeepsTape t (K n) v) (isOurs (K n) h) (calls c) apart (λ e. l) (λ e. tt)
@@ -94,7 +88,7 @@ module _ (d s : List ℕ) (K : Lore) (r : Running (areas d s) K) (n : List ℕ) 
     keeping store fits ok keeps = absurd (false≢true keeps)
     keeping append fits ok keeps =
         append-cases (λ a. codeOf (a .answer) ≡ 0 → K n .tape .writer ≡ idle) d s (λ why e. absurd (refusal-some why e)) (λ may alone e. none-writes (may .free)) ok
-    keeping reader fits ok keeps = ap valueOf (reader-done d s ok) ∙ ap (λ (x : ℕ). x + 1) numbered
+    keeping reader fits ok keeps = ap valueOf (reader-done d s ok) ∙ ap (λ (x : ℕ). x + 1) (running-last (areas d s) K r n long)
     keeping truncate fits ok keeps =
         truncate-cases (λ a. codeOf (a .answer) ≡ 0 → K n .tape .writer ≡ idle) d s (λ why e. absurd (refusal-some why e)) (λ may e. none-writes (may .free)) ok
     keeping (openTape u name entry size cache start) fits ok keeps = open-lasts u name entry size cache start fits ok _
@@ -173,18 +167,11 @@ live-call t k v (L.read u o i) l live known = live
 live-call t k v (L.commit u) l live known = live-commit u (k .tape) (k .tape .writer) live
 live-call t k v (L.drop′ u) l live known = live-drop t u (k .tape) (k .tape .writer) l live known
 
--- a tape with a handle is open
+-- an open tape keeps its handle, with its entry size
 module _ (a : Areas) (K : Lore) (r : Running a K) (n : List ℕ) (long : 0 < length n) (some-handle : K n .handle ≢ 0) where
-  pub lives : K n .tape .live ≡ true
-  lives =
-      let h = r .holds n long in
-      let at = handle-place (a .disk) (a .session) (r .orderly) n (K n .handle) (K n .entry) (h .handled) some-handle in
-      sym (h .seen .live) ∙ live-at (a .session) n (at .place) (at .at) (λ z. some-handle (sym (at .number) ∙ z))
-
-  -- and keeps it, with its entry size
   pub handle-kept : (t v : ℕ) (x : Concern) → KeepsTape t (K n) v x → (K n .tape .listed ≡ true) ⊎ (isWriter t (K n .tape .writer) ≡ true)
       → (tellAs (K n) v x .handle ≡ K n .handle) × (tellAs (K n) v x .entry ≡ K n .entry)
   handle-kept t v apart l known = (refl, refl)
   handle-kept t v anew l known = absurd l
   handle-kept t v (opens u entry size cache start) l known = absurd (some-handle l)
-  handle-kept t v (calls c) l known = (ap (λ (b : Bool). cond b (K n .handle) 0) (live-call t (K n) v c l lives known), refl)
+  handle-kept t v (calls c) l known = (ap (λ (b : Bool). cond b (K n .handle) 0) (live-call t (K n) v c l (lives a K r n long some-handle) known), refl)

@@ -20,8 +20,7 @@ use Rattle.lives.specs.Invariant.{build}
 use Rattle.seen.specs.Orderly.{Orderly}
 use Rattle.seen.specs.Seen.{Seen, Handled}
 use Rattle.seen.specs.Starts.{CutStarts}
-use Rattle.seen.specs.Begins.{reader-orderly, append-orderly, truncate-orderly, reader-seen, append-seen, truncate-seen, reader-handled, append-handled, truncate-handled}
-use Rattle.seen.specs.Begins.{reader-done, append-done, truncate-done, reader-told, append-told, truncate-told, begins-rows}
+use Rattle.seen.specs.Begins.{reader-orderly, append-orderly, truncate-orderly, reader-seen, append-seen, truncate-seen, reader-handled, append-handled, truncate-handled, reader-done, append-done, truncate-done, reader-told, append-told, truncate-told, begins-rows}
 use Rattle.promises.specs.Told.{tellAs, calls}
 use Rattle.promises.specs.Holds.{moved}
 use Rattle.promises.specs.Standing.{Lore, Running}

@@ -36,7 +36,7 @@ use Rattle.seen.specs.Waits.{wait-told, idle-seen, append-serves}
 use Rattle.promises.specs.Calls.{Call, format, store, append, reader, truncate, openTape, appendEntries, shiftStart, truncateTape, dropEntries, popEntry, readEntries, readEntry, tapeLen, tapeStart, tapeExists, commit, dropTransaction, AllFit, perform, step, exchange, history}
 use Rattle.promises.specs.Told.{Known, unknown, Concern, apart, opens, calls, isOurs, ifOurs, entriesLeft, concerns, tellAs, tellOne, tell, OldSizes}
 use Rattle.promises.specs.Holds.{Holds}
-use Rattle.promises.specs.Standing.{Lore, Running, Formatted, Standing, running, formatted}
+use Rattle.promises.specs.Standing.{Lore, Running, Formatted, Standing, running, formatted, running-last}
 use Rattle.promises.specs.Since.{Since, New, since-same, since-then, since-told}
 use Rattle.promises.specs.Steps.{tell-refused, tell-served, stands}
 use Rattle.promises.specs.Runs.{stands-last, stands-then}
@@ -55,11 +55,8 @@ module _ (a : Areas) (K : Lore) (f : Formatted a K) (n : List ℕ) (long : 0 < l
   untold-cut = ap (λ (k : Known). k .tape .cut) (f .untold n long)
 
 module _ (d s : List ℕ) (K : Lore) (n : List ℕ) (long : 0 < length n) where
-  running-last : Running (areas d s) K → headOf s .«last_transaction» ≡ K n .last
-  running-last r = r .holds n long .seen .last ∙ r .holds n long .last
-
   last-given : Standing (areas d s) K → K n .last ≤ headOf s .«last_transaction»
-  last-given (running r) = omega (arith, running-last r)
+  last-given (running r) = omega (arith, running-last (areas d s) K r n long)
   last-given (formatted f) = omega (arith, untold-last (areas d s) K f n long)
 
   -- a begin gives the next number
@@ -241,7 +238,7 @@ module _ (a : Areas) (K : Lore) (r : Running a K) (n : List ℕ) (long : 0 < len
   model-served more v e =
       ap codeOf
       (append-serves (a .disk) (a .session) n model (r .holds n long .seen) (orderly-usable (a .disk) (a .session) (r .orderly))
-      (λ z. more (sym (running-last (a .disk) (a .session) K n long r) ∙ z)) v e)
+      (λ z. more (sym (running-last a K r n long) ∙ z)) v e)
 
   -- where such windows are open, an append with no writer in its way has to wait
   has-to-wait : K n .tape .writer ≡ idle → K n .tape .cut ≡ true → 0 < length (old (K n)) → (step append a .code ≡ 4) × (step append a .value ≡ length (old (K n)))

@@ -13,20 +13,17 @@ use lib.ListN.{length, take, replicate, length-append, length-take}
 use Rattle.octets.specs.Cases.{picked, decide, order, and-l, and-r}
 use Rattle.octets.specs.Compare.{sameBytes, same-true, same-refl}
 use Rattle.octets.specs.Number.{Bytes}
-use Rattle.octets.specs.declared.Found.{Found}
-use Rattle.octets.specs.declared.Found.the-variants.{At, Nothing}
 use Rattle.answers.specs.Answers.{codeOf, valueOf}
 use Rattle.session.specs.Rows.{transactionOf}
 use Rattle.rolling_tape.specs.Removal.{Areas, areas}
 use Rattle.appending.specs.Calls.{putCall}
 use Rattle.opening.specs.Shape.{openingOf}
-use Rattle.opening.specs.Calls.{isOpenTape, openCall}
-use Rattle.touches.specs.Opens.{opened}
+use Rattle.opening.specs.Calls.{openCall, opened}
 use Rattle.lives.specs.Life as L
 use Rattle.lives.specs.Told.{Told, Staging, idle, appending, cutting, toldOpen, toldPut, toldShift, toldCut, toldCommit, toldDrop}
 use Rattle.lives.specs.Told as T
 use Rattle.lives.specs.Invariant.{Dormant, GoodIf, Resting, build, eraseW}
-use Rattle.seen.specs.Seen.{placeOf, liveIn, Handled}
+use Rattle.seen.specs.Seen.{Handled}
 use Rattle.seen.specs.Handles.{handle-own}
 use Rattle.seen.specs.Touching.{stagedLen}
 use Rattle.seen.specs.Puts.{put-found}
@@ -165,11 +162,6 @@ resting-length k start epoch began len first listed C S (appending m h c s) rest
     ap length (sym (rests .1)) ∙ long
 resting-length k start epoch began len first listed C S (cutting m c) rests here is = absurd (let z : _≡_ {A = ℕ} 0 1 = cc in omega arith)
 
--- a tape without a handle sleeps
-shut-asleep : (s : List ℕ) (f : Found) → isOpenTape s f ≡ false → liveIn s f ≡ false
-shut-asleep s (At p) e = e
-shut-asleep s Nothing e = e
-
 module _ (d s : List ℕ) (t : ℕ) (wanted : List ℕ) (entry size cache start : ℕ) (K : Lore) (r : Running (areas d s) K) (letters : Bytes wanted) (small : start < 2 ^ 64)
     (served : codeOf (openCall d s t wanted entry size cache start .answer) ≡ 0) where
   abbrev v : ℕ
@@ -208,7 +200,7 @@ module _ (d s : List ℕ) (t : ℕ) (wanted : List ℕ) (entry size cache start 
     open-whole =
         let h = r .holds wanted long in
         let sv = open-served d s t wanted entry size cache start (r .orderly) letters small served in
-        let asleep : tape .live ≡ false = sym (h .seen .live) ∙ shut-asleep s (placeOf s wanted) (sv .opens .shut) in
+        let asleep : tape .live ≡ false = sym (h .seen .live) ∙ sv .opens .shut in
         let dormant : Dormant tape (h .phys) = subst (λ (b : Bool). GoodIf b tape (h .phys)) asleep (h .good) in
         let len = opened s wanted entry size cache start .len in
         let staged : len ≡ stagedLength (toldOpen t start (tape .writer)) = ap stagedLen (sym open-writer) ∙ staged-same (tape .epoch) (toldOpen t start (tape .writer)) in

@@ -1,7 +1,6 @@
 -- Every call but `format` keeps a session level with its disk: those that stage, begin or drop leave the epoch, the next side, and left and right; an append of
 -- entries and an open too; a commit and a store make them so again. Assumes nothing.
 use mathlib.Core.Path.{_≡_, refl, sym, ap, subst, _∙_}
-use mathlib.Core.Bool.{true}
 use mathlib.Core.Logic.{_≢_}
 use mathlib.Core.List.{List}
 use Prim.Native.Nat.{ℕ, _+_, _≤_, _<_, _^_}
@@ -35,8 +34,8 @@ use Rattle.staging.specs.Shifting.{shiftCall}
 use Rattle.appending.specs.Calls.{putCall}
 use Rattle.entries.specs.Popping.{popCall}
 use Rattle.answers.specs.Outcome.{Outcome}
-use Rattle.opening.specs.Calls.{cachedFrom, cachedBytes, nextHandle, rowed, openWith, openNow, openCall}
-use Rattle.opening.specs.Laws.{opened, open-cases, opens-shaped}
+use Rattle.opening.specs.Calls.{cachedFrom, cachedBytes, rowStaged, rowHandle, handed, rowed, openWith, openNow, openCall, opened}
+use Rattle.opening.specs.Laws.{open-cases, opens-shaped}
 use Rattle.opening.specs.PlacingLaws.{named, head-named, length-named}
 use Rattle.opening.specs.RowedLaws.{length-rowed}
 use Rattle.opening.specs.declared.shape.Opening.{Opening}
@@ -127,10 +126,6 @@ put-level d s sound level t h bs =
     level-same d s (e .disk) (e .session) (ap (λ (x : Head). x .epoch) head) (ap (λ (x : Head). x .side) head)
     (sides-stay d (e .disk) sound (put-touches-disk d s t h bs .long) (put-leaves-disk d s t h bs)) level
 
--- a head with the next handle's number
-abbrev handed : Head → Head
-handed h = record { epoch = h .epoch; cut = h .cut; side = h .side; «last_transaction» = h .«last_transaction»; «last_handle» = h .«last_handle» + 1 }
-
 -- the numbers of a head that is read are 64-bit ones, and so is the next handle's where there is one
 handed-fits : (s : List ℕ) → Bytes s → headOf s .«last_handle» ≢ 0xffff_ffff_ffff_ffff → HeadFits (handed (headOf s))
 unfolding headOf
@@ -150,9 +145,7 @@ sides-left d e sound long fields sides Right =
 module _ (x : List ℕ) (p : ℕ) (o : Opening) (bs : List ℕ) (fits : HeadFits (handed (headOf x))) (long : 48 ≤ length x) where
   abbrev before : List ℕ
   before =
-      putHandle
-      (putStaged (filledWith x p (o .cache) (cachedFrom o) bs) p (record { touched = true; base = o .len; len = o .len; start = o .start; unwritten = 0 })) p
-      (record { number = nextHandle x; entry = o .entry; «file_size» = o .«file_size» })
+      putHandle (putStaged (filledWith x p (o .cache) (cachedFrom o) bs) p (rowStaged o)) p (rowHandle x o)
 
   rowed-head : headOf (rowed x p o bs) ≡ handed (headOf x)
   unfolding rowed
@@ -170,7 +163,7 @@ module _ (d s : List ℕ) (whole : Bytes s) (t : ℕ) (wanted : List ℕ) (entry
   open-head =
       open-cases d s t wanted entry fs cache start Same (λ why. (refl, refl))
       (λ ok w p g.
-      let o = opened d s t wanted entry fs cache start in
+      let o = opened s wanted entry fs cache start in
       let sound = usable-disk d s ok in
       let small = opens-shaped d s t wanted entry fs cache start p g .name-short in
       let f = findName d D.directories wanted in

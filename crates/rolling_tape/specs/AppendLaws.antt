@@ -110,37 +110,29 @@ module _ (place fs : ℕ) (z : 0 < fs) (small : fs ≤ 4096) where
       ∙ ap (λ (m : ℕ). writeRun (writePiece t place n (p + 1) (take k bs)) place fs m (drop k bs)) after
       ∙ sym rest
 
-  cons-run : (d : List ℕ) (o x : ℕ) (bs : List ℕ) → Sound d
-      → writeRun d place fs o (x ∷ bs) ≡ writeRun (writePiece d place (fileOf fs o) (placeIn fs o) (x ∷ [])) place fs (o + 1) bs
-  cons-run d o x bs sound =
-      let c = firstCount fs o (suc (length bs)) in
-      let some = left-some fs z o in
-      order 1 c
-      (λ (h : 1 < c). cons-more d o x (c - 1) bs sound (omega arith) (omega arith))
-      (λ (h : c ≤ 1). cons-alone d o x bs (omega arith))
-
-  append-run : (a b : List ℕ) (d : List ℕ) (o : ℕ) → Sound d
-      → writeRun d place fs o (a ++ b) ≡ writeRun (writeRun d place fs o a) place fs (o + length a) b
-  append-run [] b d o sound = rw (run-none d place fs o, add-zero)
-  append-run (x ∷ a) b d o sound =
-      let t = writePiece d place (fileOf fs o) (placeIn fs o) (x ∷ []) in
-      let inside = place-left fs z o in
-      let some = left-some fs z o in
-      let e : o + 1 + length a ≡ o + suc (length a) = omega arith in
-      cons-run d o x (a ++ b) sound
-      ∙ append-run a b t (o + 1) (sound-writePiece d place (fileOf fs o) (placeIn fs o) (x ∷ []) sound (omega arith))
-      ∙ ap (λ (m : ℕ). writeRun (writeRun t place fs (o + 1) a) place fs m b) e
-      ∙ ap (λ (l : List ℕ). writeRun l place fs (o + suc (length a)) b) (sym (cons-run d o x a sound))
-
 -- one byte, and the rest
 pub writeRun-cons : (d : List ℕ) (place fs o x : ℕ) (bs : List ℕ) → Sound d → 0 < fs → fs ≤ 4096
     → writeRun d place fs o (x ∷ bs) ≡ writeRun (writePiece d place (fileOf fs o) (placeIn fs o) (x ∷ [])) place fs (o + 1) bs
-writeRun-cons d place fs o x bs sound z small = cons-run place fs z small d o x bs sound
+writeRun-cons d place fs o x bs sound z small =
+    let c = firstCount fs o (suc (length bs)) in
+    let some = left-some fs z o in
+    order 1 c
+    (λ (h : 1 < c). cons-more place fs z small d o x (c - 1) bs sound (omega arith) (omega arith))
+    (λ (h : c ≤ 1). cons-alone place fs z small d o x bs (omega arith))
 
 -- two runs, one behind the other
 pub writeRun-append : (d : List ℕ) (place fs o : ℕ) (a b : List ℕ) → Sound d → 0 < fs → fs ≤ 4096
     → writeRun d place fs o (a ++ b) ≡ writeRun (writeRun d place fs o a) place fs (o + length a) b
-writeRun-append d place fs o a b sound z small = append-run place fs z small a b d o sound
+writeRun-append d place fs o [] b sound z small = rw (run-none d place fs o, add-zero)
+writeRun-append d place fs o (x ∷ a) b sound z small =
+    let t = writePiece d place (fileOf fs o) (placeIn fs o) (x ∷ []) in
+    let inside = place-left fs z o in
+    let some = left-some fs z o in
+    let e : o + 1 + length a ≡ o + suc (length a) = omega arith in
+    writeRun-cons d place fs o x (a ++ b) sound z small
+    ∙ writeRun-append t place fs (o + 1) a b (sound-writePiece d place (fileOf fs o) (placeIn fs o) (x ∷ []) sound (omega arith)) z small
+    ∙ ap (λ (m : ℕ). writeRun (writeRun t place fs (o + 1) a) place fs m b) e
+    ∙ ap (λ (l : List ℕ). writeRun l place fs (o + suc (length a)) b) (sym (writeRun-cons d place fs o x a sound z small))
 
 pub covered-append : (a : Areas) (place n j k : ℕ) → covered a place n (j + k) ≡ covered (covered a place n j) place (n + j) k
 unfolding covered

@@ -5,17 +5,17 @@ use Rattle.octets.specs.Only.{OnlyIn, only-none, only-then}
 use Rattle.layout.specs.Disk.{slots, Sound}
 use Rattle.rolling_tape.specs.Removal.{Areas}
 
-pub record Kept (a b : Areas) : Type 0 where
+pub record KeptSound (a b : Areas) : Type 0 where
   pub sound : Sound (b .disk)
   pub long : length (b .disk) ≡ length (a .disk)
   pub same : slots (b .disk) ≡ slots (a .disk)
   pub only : OnlyIn 4936 5960 (a .session) (b .session)
 
-pub kept-none : (a : Areas) → Sound (a .disk) → Kept a a
-kept-none a sound = record { sound = sound; long = refl; same = refl; only = only-none 4936 5960 (a .session) }
+pub kept-sound-none : (a : Areas) → Sound (a .disk) → KeptSound a a
+kept-sound-none a sound = record { sound = sound; long = refl; same = refl; only = only-none 4936 5960 (a .session) }
 
-pub kept-then : (a b c : Areas) → Kept a b → Kept b c → Kept a c
-kept-then a b c k l =
+pub kept-sound-then : (a b c : Areas) → KeptSound a b → KeptSound b c → KeptSound a c
+kept-sound-then a b c k l =
     record {
       sound = l .sound;
       long = l .long ∙ k .long;

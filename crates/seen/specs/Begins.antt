@@ -16,6 +16,7 @@ use Rattle.answers.specs.Answers.{codeOf}
 use Rattle.answers.specs.declared.Answer.{Answer}
 use Rattle.answers.specs.declared.Answer.the-variants.{Done}
 use Rattle.components.specs.Epochs.{older}
+use Rattle.layout.specs.NamesLaws.{name-low}
 use Rattle.layout.specs.Session.{namesAt, Begun}
 use Rattle.session.specs.declared.head.Head.{Head}
 use Rattle.session.specs.declared.tape_rows.Staged.{Staged}
@@ -36,7 +37,6 @@ use Rattle.lives.specs.Life.{Reader, Writer, Store, step, stepAppend, stepTrunc
 use Rattle.lives.specs.Life as L
 use Rattle.seen.specs.Seen.{placeOf, shown, viewIn, stagedIn, readerIn, writerAs, writerIn, countOpen, Seen, Handled}
 use Rattle.seen.specs.Orderly.{Orderly}
-use Rattle.seen.specs.Places.{found-low}
 use Rattle.seen.specs.Rows.{open-row, untouched-unwritten, untouched-rows, count-rows, view-in, touched-in, staged-in, touched-as, number-row}
 use Rattle.seen.specs.Kinds.{append-open}
 use Rattle.seen.specs.Counts.{Others, open-more, in-cons, seen-waits}
@@ -150,11 +150,11 @@ module _ (d s u : List ℕ) (t : ℕ) (k : Kind) (low : t < 17) (some : isOpen k
 
 module _ (s u : List ℕ) (t : ℕ) (k : Kind) (b : Begins s u t k) (n : List ℕ) where
   own-view : (found : Found) → placeOf s n ≡ found → viewIn u t found ≡ viewIn s 17 found
-  own-view (At p) e = ap shown (b .view p (found-low s namesAt n p e))
+  own-view (At p) e = ap shown (b .view p (name-low s namesAt n p e))
   own-view Nothing e = refl
 
   old-reader : (x : ℕ) → x < 16 → x ≢ t → readerIn u (placeOf s n) x ≡ readerIn s (placeOf s n) x
-  old-reader x l d = rw (b .others x (omega arith) d, view-in s u (placeOf s n) x (λ p at. b .views x p (omega arith) d (found-low s namesAt n p at)))
+  old-reader x l d = rw (b .others x (omega arith) d, view-in s u (placeOf s n) x (λ p at. b .views x p (omega arith) d (name-low s namesAt n p at)))
 
 -- a reader: the writer is as before
 module _ (d s u : List ℕ) (t : ℕ) (low : t < 16) (free : isOpenAt s t ≡ false) (b : Begins s u t K.Reader) (o : Orderly d s) (n : List ℕ) (st : Store) (seen : Seen d s n st) where
@@ -178,8 +178,8 @@ module _ (d s u : List ℕ) (t : ℕ) (low : t < 16) (free : isOpenAt s t ≡ fa
       open-more has s u (placeOf s n) t low others r free (opened d s u t K.Reader (omega arith) refl free b o) new-reader
       ∙ ap (λ (x : ℕ). cond (has r) (suc x) x) (seen .readers has)
       ∙ sym (in-cons has r (st .readers)))
-      (rw (b .others 16 (omega arith) (λ q. omega arith), staged-in s u (placeOf s n) (λ p at. b .staged p (found-low s namesAt n p at)) (λ p at. b .views 16 p (omega arith) (λ q. omega arith) (found-low s namesAt n p at))) (seen .writer))
-      (touched-in s u (placeOf s n) (λ p at. b .staged p (found-low s namesAt n p at)) ∙ seen .touched)
+      (rw (b .others 16 (omega arith) (λ q. omega arith), staged-in s u (placeOf s n) (λ p at. b .staged p (name-low s namesAt n p at)) (λ p at. b .views 16 p (omega arith) (λ q. omega arith) (name-low s namesAt n p at))) (seen .writer))
+      (touched-in s u (placeOf s n) (λ p at. b .staged p (name-low s namesAt n p at)) ∙ seen .touched)
       (λ p l there live.
       let was = seen .opened p there live in
       record {
@@ -197,7 +197,7 @@ module _ (d s u : List ℕ) (k : Kind) (free : isOpenAt s 16 ≡ false) (some : 
   sees-list p l = rw (bare p l) (b .view p l)
 
   as-listed : (found : Found) → placeOf s n ≡ found → stagedIn u found ≡ viewIn s 17 found
-  as-listed (At p) e = ap shown (sees-list p (found-low s namesAt n p e))
+  as-listed (At p) e = ap shown (sees-list p (name-low s namesAt n p e))
   as-listed Nothing e = refl
 
   new-writer : writerIn u (placeOf s n) ≡ writerAs k (st .last + 1) (st .epoch) (record { listed = st .listed; len = st .len; start = st .start })
@@ -206,7 +206,7 @@ module _ (d s u : List ℕ) (k : Kind) (free : isOpenAt s 16 ≡ false) (some : 
   same-readers : (has : Reader → Bool) → countOpen has u (placeOf s n) ≡ countOpen has s (placeOf s n)
   same-readers =
       count-rows s u (placeOf s n) (placeOf s n) (λ x l. b .others x (omega arith) (λ q. omega arith))
-      (λ x l. view-in s u (placeOf s n) x (λ p at. b .views x p (omega arith) (λ q. omega arith) (found-low s namesAt n p at)))
+      (λ x l. view-in s u (placeOf s n) x (λ p at. b .views x p (omega arith) (λ q. omega arith) (name-low s namesAt n p at)))
 
   writer-goes : (w : Writer) → writerAs k (st .last + 1) (st .epoch) (record { listed = st .listed; len = st .len; start = st .start }) ≡ w
       → Seen d u n (then (L.Done (st .last + 1)) (st .last + 1) st (st .readers) w false (st .live) (st .held) .store)
@@ -215,7 +215,7 @@ module _ (d s u : List ℕ) (k : Kind) (free : isOpenAt s 16 ≡ false) (some : 
       (b .last ∙ ap (λ (x : ℕ). x + 1) (seen .last))
       (λ has. same-readers has ∙ seen .readers has)
       (new-writer ∙ e)
-      (untouched-rows u (placeOf s n) (λ p at. bare p (found-low s namesAt n p at)))
+      (untouched-rows u (placeOf s n) (λ p at. bare p (name-low s namesAt n p at)))
       (λ p l there live.
       record {
         unwritten = untouched-unwritten u p (bare p l) ∙ sym (untouched-unwritten s p (o .idle-untouched free p l)) ∙ seen .opened p there live .unwritten;

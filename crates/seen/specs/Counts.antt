@@ -1,15 +1,16 @@
--- Laws of the two counts of readers: of those in a list, and of those in the open places of the table. Whom an append waits for, and the oldest reader, are
--- the same on both sides. Assumes nothing.
+-- Laws of the two counts of readers: of those in a list, also by the pages that windows show, and of those in the open places of the table. Whom an append
+-- waits for, and the oldest reader, are the same on both sides. Assumes nothing.
 use mathlib.Core.Path.{_≡_, refl, sym, ap, _∙_}
 use mathlib.Core.Logic.{_≢_, ⊎-elim}
 use mathlib.Core.Bool.{Bool, true, false, cond, not, _&&_, and-false}
-use mathlib.Core.List.{List, [], _∷_, List·Memᴰ, List·Memᴰ·cases-cons, List·Memᴰ·not-nil}
+use mathlib.Core.Option.{Option, some, Option·none-ne-some, Option·some-injective}
+use mathlib.Core.List.{List, [], _∷_, map, List·Memᴰ, List·Memᴰ·cases-cons, List·Memᴰ·not-nil}
 use Prim.Native.Nat.{ℕ, zero, suc, _+_, _≤_, _<_}
 use native.Mathlib.Omega.{arith}
 use borrow.Author.Tests.{eq-eqb, ne-eqb}
 use lib.Dec.{eqb, ltb}
 use lib.ListN.{length}
-use Rattle.octets.specs.Cases.{decide, equal, and-l, and-r, and-both}
+use Rattle.octets.specs.Cases.{picked, decide, equal, and-l, and-r, and-both}
 use Rattle.octets.specs.First.{count, count-same, count-more}
 use Rattle.octets.specs.declared.Found.{Found}
 use Rattle.components.specs.Epochs.{older, oldestOther}
@@ -18,6 +19,8 @@ use Rattle.session.specs.Rows.{headOf, transactionOf}
 use Rattle.beginning.specs.Transactions.{isOpenAt, isOlder, waitingFor}
 use Rattle.ending.specs.Oldest.{epochsFrom, oldestOf}
 use Rattle.lives.specs.Life.{Reader, Store, find, without, isSome, epochs}
+use Rattle.lives.specs.Told.{Window, Page, pageW, pageIn}
+use Rattle.lives.specs.Invariant.{erase}
 use Rattle.seen.specs.Seen.{placeOf, readerIn, countIn, countOpen, Seen}
 
 -- ---- in a list
@@ -58,13 +61,29 @@ in-member has r (q ∷ rs) m e =
     (λ n. omega (arith, in-miss has q rs h, in-member has r rs n e))
     (List·Memᴰ·cases-cons m))
 
-pub find-some : (k : ℕ) (rs : List Reader) → 0 < countIn (λ r. eqb k (r .number)) rs → isSome (find k rs) ≡ true
+-- a reader of a number
+abbrev pub isNumber : ℕ → Reader → Bool
+isNumber k r = eqb k (r .number)
+
+pub find-some : (k : ℕ) (rs : List Reader) → 0 < countIn (isNumber k) rs → isSome (find k rs) ≡ true
 unfolding find
-find-some k [] some = absurd (omega (arith, in-none (λ r. eqb k (r .number))))
-find-some k (r ∷ rs) some =
+find-some k [] one = absurd (omega (arith, in-none (isNumber k)))
+find-some k (r ∷ rs) one =
     decide (eqb k (r .number))
     (λ (e : eqb k (r .number) ≡ true). rw e)
-    (λ (e : eqb k (r .number) ≡ false). rw e (find-some k rs (omega (arith, in-miss (λ q. eqb k (q .number)) r rs e))))
+    (λ (e : eqb k (r .number) ≡ false). rw e (find-some k rs (omega (arith, in-miss (isNumber k) r rs e))))
+
+-- a window that shows a page is counted, by whatever such a window has
+pub page-counted : (has : Reader → Bool) (k : ℕ) (q : Page) → ((w : Window) → eqb k (w .number) ≡ true → pageW w ≡ q → has (erase w) ≡ true)
+    → (ws : List Window) → pageIn k ws ≡ some q → 0 < countIn has (map erase ws)
+unfolding pageIn
+page-counted has k q hits [] = λ e. absurd (Option·none-ne-some q e)
+page-counted has k q hits (w ∷ ws) =
+    picked (λ (x : Option Page). x ≡ some q → 0 < countIn has (map erase (w ∷ ws))) (eqb k (w .number)) (some (pageW w)) (pageIn k ws)
+    (λ m e. omega (arith, in-hit has (erase w) (map erase ws) (hits w m (Option·some-injective _ _ e))))
+    (λ m e.
+    let rest = page-counted has k q hits ws e in
+    decide (has (erase w)) (λ h. omega (arith, in-hit has (erase w) (map erase ws) h)) (λ h. omega (arith, in-miss has (erase w) (map erase ws) h)))
 
 -- ---- in the open places
 
@@ -77,12 +96,12 @@ record Place (p : ℕ → Bool) (k i : ℕ) : Type 0 where
 
 count-some : (p : ℕ → Bool) (k i : ℕ) → 0 < count p k i → Place p k i
 unfolding count
-count-some p zero i some = absurd (omega arith)
-count-some p (suc k) i some =
+count-some p zero i one = absurd (omega arith)
+count-some p (suc k) i one =
     decide (p i)
     (λ (e : p i ≡ true). record { place = i; low = omega arith; high = omega arith; holds = e })
     (λ (e : p i ≡ false).
-    let h = count-some p k (i + 1) (omega (arith, rw e at some)) in
+    let h = count-some p k (i + 1) (omega (arith, rw e at one)) in
     record { place = h .place; low = omega (arith, h .low); high = omega (arith, h .high); holds = h .holds })
 
 count-place : (p : ℕ → Bool) (k i j : ℕ) → i ≤ j → j < i + k → p j ≡ true → 0 < count p k i
@@ -103,8 +122,8 @@ pub record AtPlace (has : Reader → Bool) (s : List ℕ) (tape : Found) : Type 
 module _ (has : Reader → Bool) (s : List ℕ) (tape : Found) where
   pub open-some : 0 < countOpen has s tape → AtPlace has s tape
   unfolding countOpen
-  open-some some =
-      let h = count-some (λ t. isOpenAt s t && has (readerIn s tape t)) 16 0 some in
+  open-some one =
+      let h = count-some (λ t. isOpenAt s t && has (readerIn s tape t)) 16 0 one in
       let t = h .place in
       record {
         place = t;

@@ -1,38 +1,30 @@
 -- `truncate_tape`, `drop_entries` and `pop_entry` are the model's `cut`, each to its length. Assumes nothing.
 use mathlib.Core.Path.{_≡_, refl, sym, ap, _∙_, subst}
 use mathlib.Core.Logic.{_≢_}
-use mathlib.Core.Bool.{Bool, true, false, true≢false}
+use mathlib.Core.Bool.{Bool, true}
 use mathlib.Core.List.{List}
 use Prim.Native.Nat.{ℕ, _*_, _-_, _/_, _≤_, _<_}
 use native.Mathlib.Nat.{div-le-self}
 use native.Mathlib.Omega.{arith}
-use borrow.Author.Tests.{eq-eqb, le-leb, eqb-false}
-use lib.Dec.{eqb}
-use Rattle.octets.specs.Cases.{picked}
-use Rattle.octets.specs.declared.Found.{Found}
-use Rattle.octets.specs.declared.Found.the-variants.{At, Nothing}
+use borrow.Author.Tests.{eq-eqb, le-leb}
+use Rattle.octets.specs.declared.Found.the-variants.{At}
 use Rattle.answers.specs.Answers.{codeOf}
-use Rattle.answers.specs.Outcome.{Reading, Popping, popping}
-use Rattle.answers.specs.declared.OneEntry.{OneEntry}
-use Rattle.answers.specs.declared.OneEntry.the-variants.{Entry, NoEntry}
-use Rattle.answers.specs.declared.OneEntry.the-variants as One
-use Rattle.answers.specs.declared.Refusal.{Refusal}
-use Rattle.answers.specs.declared.Refusal.the-variants.{Unusable, Unknown, WriterOpen, Wait, Full, BadName, ReservedName, BadSize, AlreadyOpen, NotWhole, Absent, OutOfBounds, StartPastLength, LongerCut, NoSlot, Missing, BadList, TooLarge}
+use Rattle.answers.specs.Outcome.{Popping}
+use Rattle.answers.specs.declared.OneEntry.the-variants.{Entry}
 use Rattle.components.specs.BoundsLaws.{upTo-true}
 use Rattle.layout.specs.Session.{handleNumber, entrySize}
 use Rattle.session.specs.declared.tape_rows.Staged.{Staged}
 use Rattle.session.specs.Rows.{handleOf, ringOf, ringBytes, putStaged, findHandle}
+use Rattle.session.specs.RowLaws.{handle-entry}
 use Rattle.beginning.specs.Laws.{refusal-some}
-use Rattle.beginning.specs.Transactions.{usable}
 use Rattle.beginning.specs.Transactions as Real
 use Rattle.staging.specs.Seeing.{seenBy, touchedAs, cuts}
 use Rattle.staging.specs.Cutting.{cutTo, cutCall, dropCall}
 use Rattle.staging.specs.Ways.{handle-found}
 use Rattle.staging.specs.Laws.{Goes, left, cut-cases, drop-cases, cut-done, drop-done, left-within, begun-cutTo, touched-fits, seen-fits}
 use Rattle.appending.specs.CallWays.{seen-touched}
-use Rattle.entries.specs.Reads.{noneFor}
-use Rattle.entries.specs.Popping.{cutAt, popAt, popOn, popIn, popCall}
-use Rattle.entries.specs.Laws.{filled, read-on-cases, last, Poppable, popped, pop-done}
+use Rattle.entries.specs.Popping.{popCall}
+use Rattle.entries.specs.Laws.{last, Poppable, pop-cases, pop-done}
 use Rattle.lives.specs.Told.{Told}
 use Rattle.lives.specs.Invariant.{Phys, Good, build}
 use Rattle.lives.specs.Life.{Writer, cutting, Store, After, Done, cut, step, then}
@@ -42,7 +34,7 @@ use Rattle.seen.specs.Orderly.{Orderly}
 use Rattle.seen.specs.Handles.{handle-own}
 use Rattle.seen.specs.GoodTapes.{all-written}
 use Rattle.seen.specs.Touching.{OnHandle, Leads, stagedLen, cut-writer, cut-listed, its-live, its-base, staged, writerWith}
-use Rattle.seen.specs.Stages.{PutRow, row-put, on-handle, put-row-own, Finds, entry-of}
+use Rattle.seen.specs.Stages.{PutRow, row-put, on-handle, put-row-own, Finds}
 use Rattle.seen.specs.Kinds.{cuts-kind, cuts-as, cuts-open}
 
 -- ---- a cut
@@ -149,7 +141,7 @@ module _ (d s : List ℕ) (k h i : ℕ) (served : codeOf (cutCall d s k h i .ans
     pub cut-own : (n : List ℕ) (entry : ℕ) → Handled s n h entry → (t : Told) (x : Phys) → Good t x → Seen d s n (build t x)
         → Leads d (cutCall d s k h i .session) n (step (cut k (i * entry)) (build t x)) 0
     unfolding cut-to
-    cut-own n entry its = cuts-named d s o k h (cutCall d s k h i .session) cut-to n entry its (i * entry) (λ e. ap (λ (b : ℕ). i * b) (entry-of s (cut-to .tape) ∙ e))
+    cut-own n entry its = cuts-named d s o k h (cutCall d s k h i .session) cut-to n entry its (i * entry) (λ e. ap (λ (b : ℕ). i * b) (handle-entry s (cut-to .tape) (handleOf s (cut-to .tape)) refl ∙ e))
 
 -- ---- entries dropped
 
@@ -191,67 +183,10 @@ module _ (d s : List ℕ) (k h count : ℕ) (served : codeOf (dropCall d s k h c
         let len : stagedLen (build t x .writer) ≡ seenBy s 16 p .len
         = ap stagedLen (cut-writer d s n o p at (handle-found s h p (drop-to .found) .held) (build t x) seen k (drop-to .writer) (drop-to .listed)) ∙ sym (seen-touched s p) in
         cuts-named d s o k h (dropCall d s k h count .session) drop-to n entry its ((stagedLen (build t x .writer) / entry - count) * entry)
-        (λ e. rw (entry-of s p, len, e))
+        (λ e. rw (handle-entry s p (handleOf s p) refl, len, e))
         t x good seen
 
 -- ---- an entry popped
-
--- a read that was refused has no entry
-abbrev isEntry : OneEntry → Bool
-isEntry (Entry i) = true
-isEntry NoEntry = false
-isEntry (One.Refused why) = false
-
-none-is : (why : Refusal) → isEntry (noneFor why) ≡ false
-none-is Unusable = refl
-none-is Unknown = refl
-none-is WriterOpen = refl
-none-is (Wait n) = refl
-none-is Full = refl
-none-is BadName = refl
-none-is ReservedName = refl
-none-is BadSize = refl
-none-is AlreadyOpen = refl
-none-is NotWhole = refl
-none-is Absent = refl
-none-is OutOfBounds = refl
-none-is StartPastLength = refl
-none-is LongerCut = refl
-none-is NoSlot = refl
-none-is Missing = refl
-none-is BadList = refl
-none-is TooLarge = refl
-
-none-entry : (why : Refusal) (i : ℕ) → noneFor why ≢ Entry i
-none-entry why i e = true≢false (sym (ap isEntry e) ∙ none-is why)
-
--- the ways of `pop-cases` (`entries/specs/Laws.antt`), walked once more: there a pop that changes nothing may have any answer, here it has no entry
-module _ (P : Popping → Type 0) (d s : List ℕ) (t h : ℕ) (out : List ℕ) (no : (a : OneEntry) → ((i : ℕ) → a ≢ Entry i) → P (popping a s out)) where
-  pop-by : ((p : ℕ) → Poppable d s t h out p → P (popping (Entry (last s p)) (popped s p) (filled d s p (last s p) 1 out))) → P (popCall d s t h out)
-  unfolding popCall popOn popAt
-  pop-by goes =
-      picked P (usable d s) _ _
-      (λ ok. picked P (cuts s t) _ _ (λ w. on ok w (findHandle s h) refl) (λ w. refused Unknown))
-      (λ ok. refused Unusable)
-    where
-      refused : (why : Refusal) → P (popping (One.Refused why) s out)
-      refused why = no (One.Refused why) (λ i e. let z : _≡_ {A = ℕ} 0 1 = cc in omega arith)
-
-      nothing : P (popping NoEntry s out)
-      nothing = no NoEntry (λ i e. let z : _≡_ {A = ℕ} 0 1 = cc in omega arith)
-
-      on : usable d s ≡ true → cuts s t ≡ true → (q : Found) → findHandle s h ≡ q → P (popIn d s out q)
-      on ok w (At p) e =
-          picked P (seenBy s 16 p .listed) _ _
-          (λ l.
-          picked P (eqb (seenBy s 16 p .len / entrySize s p) 0) _ _
-          (λ z. nothing)
-          (λ z.
-          let none = eqb-false (seenBy s 16 p .len / entrySize s p) 0 z in
-          read-on-cases (λ (a : Reading). P (cutAt s p (last s p) (a .buffer) (a .answer))) d s (last s p) 1 out (λ why. no (noneFor why) (none-entry why)) 16 p
-          (λ g. goes p (record { sound = ok; writer = w; found = e; some = none; inside = g }))))
-          (λ l. nothing)
-      on ok w Nothing e = refused Unknown
 
 -- what a pop that had an entry has found
 record Pops (d s : List ℕ) (k h : ℕ) (out : List ℕ) (i : ℕ) : Type 0 where
@@ -263,14 +198,14 @@ record Pops (d s : List ℕ) (k h : ℕ) (out : List ℕ) (i : ℕ) : Type 0 whe
 module _ (d s : List ℕ) (k h : ℕ) (out : List ℕ) (i : ℕ) (served : popCall d s k h out .answer ≡ Entry i) where
   pop-found : Pops d s k h out i
   pop-found =
-      pop-by (λ (a : Popping). a .answer ≡ Entry i → Pops d s k h out i) d s k h out (λ a not e. absurd (not i e))
+      pop-cases (λ (a : Popping). a .answer ≡ Entry i → Pops d s k h out i) d s k h out (λ a not e. absurd (not i e))
       (λ p g e. record { place = p; goes = g; index = cc }) served
 
   pub pop-to : CutsTo s k h (popCall d s k h out .session)
   pop-to =
       let p = pop-found .place in
       let g = pop-found .goes in
-      let same : left s p 1 * handleOf s p .entry ≡ i * entrySize s p = rw (entry-of s p, pop-found .index) in
+      let same : left s p 1 * handleOf s p .entry ≡ i * entrySize s p = rw (handle-entry s p (handleOf s p) refl, pop-found .index) in
       record {
         tape = p;
         to = i * entrySize s p;

@@ -12,6 +12,7 @@ use Rattle.octets.specs.Number.{Bytes}
 use Rattle.metadata.specs.declared.choice.Side.{Side}
 use Rattle.metadata.specs.declared.choice.Side.the-variants.{Left, Right}
 use Rattle.layout.specs.Names.{name}
+use Rattle.layout.specs.NamesLaws.{name-low}
 use Rattle.layout.specs.Disk.{directories}
 use Rattle.layout.specs.Disk as D
 use Rattle.layout.specs.Session.{namesAt, handleNumber, Begun}
@@ -25,9 +26,9 @@ use Rattle.touches.specs.Parts.{Stays, belowTapes, handles, belowFiles}
 use Rattle.touches.specs.Rows.{row-stays, numAt-stays, head-stays, view-stays, transaction-stays, handle-stays, name-stays, side-stays}
 use Rattle.joins.specs.FilesAt.{Once}
 use Rattle.lives.specs.Life.{Reader}
-use Rattle.seen.specs.Seen.{placeOf, viewIn, liveIn, countOpen, Handled}
+use Rattle.seen.specs.Seen.{placeOf, viewIn, isOpenTape, countOpen, Handled}
 use Rattle.seen.specs.Orderly.{Orderly}
-use Rattle.seen.specs.Places.{found-low, find-same}
+use Rattle.seen.specs.Places.{find-same}
 use Rattle.seen.specs.Lists.{recorded-same}
 use Rattle.seen.specs.Rows.{view-rows, live-rows, count-rows, handled-rows, number-row, open-row}
 
@@ -71,17 +72,17 @@ module _ (d s e u : List ℕ) (f : Frame d s e u) where
   frame-open t low = open-row s u t (f .transactions t low)
 
   pub frame-view : (w : ℕ) → w < 18 → (n : List ℕ) → viewIn u w (placeOf u n) ≡ viewIn s w (placeOf s n)
-  frame-view w low n = view-rows s u n (frame-place n) w (λ p at. f .views w p low (found-low s namesAt n p at))
+  frame-view w low n = view-rows s u n (frame-place n) w (λ p at. f .views w p low (name-low s namesAt n p at))
 
-  pub frame-live : (n : List ℕ) → liveIn u (placeOf u n) ≡ liveIn s (placeOf s n)
-  frame-live n = live-rows s u n (frame-place n) (λ p at. f .handles p (found-low s namesAt n p at))
+  pub frame-live : (n : List ℕ) → isOpenTape u (placeOf u n) ≡ isOpenTape s (placeOf s n)
+  frame-live n = live-rows s u n (frame-place n) (λ p at. f .handles p (name-low s namesAt n p at))
 
   pub frame-readers : (has : Reader → Bool) (n : List ℕ) → countOpen has u (placeOf u n) ≡ countOpen has s (placeOf s n)
   frame-readers has n =
       count-rows s u (placeOf s n) (placeOf u n) (λ t l. f .transactions t (omega arith)) (λ t l. frame-view t (omega arith) n) has
 
   pub frame-handled : (n : List ℕ) (h entry : ℕ) → Handled s n h entry → Handled u n h entry
-  frame-handled n = handled-rows s u n (frame-place n) (λ p at. f .handles p (found-low s namesAt n p at))
+  frame-handled n = handled-rows s u n (frame-place n) (λ p at. f .handles p (name-low s namesAt n p at))
 
   pub orderly-frame : Rules e u → StagedInOrder s u → Orderly d s → Orderly e u
   orderly-frame rules staged o =

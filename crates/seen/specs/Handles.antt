@@ -8,17 +8,19 @@ use native.Mathlib.Omega.{arith}
 use borrow.Author.Tests.{eq-eqb, ne-eqb, eqb-true}
 use lib.Dec.{eqb}
 use lib.ListN.{length}
-use Rattle.octets.specs.Cases.{order, and-r}
+use Rattle.octets.specs.Cases.{and-r}
 use Rattle.octets.specs.First.{first-at, first-hits}
 use Rattle.octets.specs.declared.Found.{Found}
 use Rattle.octets.specs.declared.Found.the-variants.{At, Nothing}
 use Rattle.layout.specs.Names.{name}
+use Rattle.layout.specs.NamesLaws.{name-low}
 use Rattle.layout.specs.Session.{namesAt, handleNumber, entrySize}
 use Rattle.session.specs.Rows.{isHandle, findHandle}
 use Rattle.staging.specs.Ways.{handle-found}
-use Rattle.seen.specs.Seen.{placeOf, handleIn, entryIn, liveIn, Handled}
+use Rattle.seen.specs.Seen.{placeOf, handleIn, entryIn, isOpenTape, Handled}
 use Rattle.seen.specs.Orderly.{Orderly}
-use Rattle.seen.specs.Places.{found-low, found-name, found-at}
+use Rattle.seen.specs.Places.{found-name, found-at}
+use Rattle.seen.specs.Rows.{open-named}
 
 -- the number of a handle that is found
 pub handle-number : (s : List ℕ) (h p : ℕ) → findHandle s h ≡ At p → handleNumber s p ≡ h
@@ -59,7 +61,7 @@ module _ (d s : List ℕ) (o : Orderly d s) where
       by : (found : Found) → placeOf s n ≡ found → Placed s n h entry
       by (At p) e =
           let number : handleNumber s p ≡ h = ap (handleIn s) (sym e) ∙ its .number in
-          let low = found-low s namesAt n p e in
+          let low = name-low s namesAt n p e in
           record {
             place = p;
             low = low;
@@ -86,7 +88,7 @@ module _ (d s : List ℕ) (o : Orderly d s) where
     pub handle-letters : 0 < length (name s namesAt p)
     handle-letters =
         let held = handle-found s h p found in
-        order 0 (length (name s namesAt p)) (λ l. l) (λ l. absurd (held .held (o .free-shut p (held .low) (omega arith))))
+        open-named d s o p (held .low) (held .held)
 
     pub handle-at : placeOf s (name s namesAt p) ≡ At p
     handle-at =
@@ -102,5 +104,5 @@ pub handle-apart : (s n : List ℕ) (h h′ entry p q : ℕ) → Handled s n h�
 handle-apart s n h h′ entry p q its apart is at e = apart (sym (its .number) ∙ ap (handleIn s) at ∙ ap (handleNumber s) e ∙ is)
 
 -- an open tape is live
-pub live-at : (s n : List ℕ) (p : ℕ) → placeOf s n ≡ At p → handleNumber s p ≢ 0 → liveIn s (placeOf s n) ≡ true
-live-at s n p at some = ap (liveIn s) at ∙ rw (ne-eqb (handleNumber s p) 0 some)
+pub live-at : (s n : List ℕ) (p : ℕ) → placeOf s n ≡ At p → handleNumber s p ≢ 0 → isOpenTape s (placeOf s n) ≡ true
+live-at s n p at some = ap (isOpenTape s) at ∙ rw (ne-eqb (handleNumber s p) 0 some)

@@ -116,7 +116,7 @@ same-lacking d s e u q small same number =
 -- ---- all tapes
 
 module _ (d s e u : List ℕ) (to more : ℕ) where
-  all-from : (n i : ℕ) → ((q : ℕ) → i ≤ q → q < i + n → lackingOf e u 8 0 q ≡ lackingOf d s to more q) → lackingAll e u 8 0 n i ≡ lackingAll d s to more n i
+  pub all-from : (n i : ℕ) → ((q : ℕ) → i ≤ q → q < i + n → lackingOf e u 8 0 q ≡ lackingOf d s to more q) → lackingAll e u 8 0 n i ≡ lackingAll d s to more n i
   unfolding lackingAll
   all-from zero i same = refl
   all-from (suc n) i same = rw (same i (omega arith) (omega arith), all-from n (i + 1) (λ q l m. same q (omega arith) (omega arith)))

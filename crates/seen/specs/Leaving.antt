@@ -10,6 +10,7 @@ use Rattle.octets.specs.Number.{Bytes}
 use Rattle.octets.specs.declared.Found.{Found}
 use Rattle.octets.specs.declared.Found.the-variants.{At, Nothing}
 use Rattle.layout.specs.Names.{name, findName}
+use Rattle.layout.specs.NamesLaws.{name-low}
 use Rattle.layout.specs.Disk.{directories}
 use Rattle.layout.specs.Session.{namesAt, handleNumber, Begun}
 use Rattle.session.specs.declared.head.Head.{Head}
@@ -27,7 +28,7 @@ use Rattle.staging.specs.Seeing.{touchedAs, isAppend}
 use Rattle.lives.specs.Life.{Answer, Reader, Writer, Store, then}
 use Rattle.seen.specs.Seen.{placeOf, viewIn, writerIn, touchedIn, filesIn, countIn, countOpen, Seen, Handled}
 use Rattle.seen.specs.Orderly.{Orderly}
-use Rattle.seen.specs.Places.{found-low, find-same}
+use Rattle.seen.specs.Places.{find-same}
 use Rattle.seen.specs.Lists.{recorded-as}
 use Rattle.seen.specs.Rows.{size-row, view-rows, live-rows, handled-rows, number-row}
 
@@ -91,14 +92,14 @@ module _ (s u : List ℕ) (left : Leaves s u) (n : List ℕ) where
   left-place = find-same s u namesAt namesAt n (left .names)
 
   pub left-list : viewIn u 17 (placeOf u n) ≡ viewIn s 17 (placeOf s n)
-  left-list = view-rows s u n left-place 17 (λ p at. left .list p (found-low s namesAt n p at))
+  left-list = view-rows s u n left-place 17 (λ p at. left .list p (name-low s namesAt n p at))
 
   pub left-files : (d : List ℕ) (found : Found) → filesIn d u found ≡ filesIn d s found
   left-files d (At place) = ap (λ (rows : ℕ → Tracking). filesOf (diskOf d) rows place) (left .tracking)
   left-files d Nothing = refl
 
   pub left-handled : (handle entry : ℕ) → Handled s n handle entry → Handled u n handle entry
-  left-handled = handled-rows s u n left-place (λ p at. left .handles p (found-low s namesAt n p at))
+  left-handled = handled-rows s u n left-place (λ p at. left .handles p (name-low s namesAt n p at))
 
   pub seen-then : (d : List ℕ) (st : Store) (a : Answer) (last : ℕ) (rs : List Reader) (w : Writer) (touched : Bool) → Seen d s n st
       → headOf u .«last_transaction» ≡ last
@@ -116,11 +117,11 @@ module _ (s u : List ℕ) (left : Leaves s u) (n : List ℕ) where
         readers = λ has. ap (countOpen has u) left-place ∙ readers has;
         writer = ap (writerIn u) left-place ∙ writer;
         touched = ap (touchedIn u) left-place ∙ touches;
-        live = live-rows s u n left-place (λ p at. left .handles p (found-low s namesAt n p at)) ∙ seen .live;
+        live = live-rows s u n left-place (λ p at. left .handles p (name-low s namesAt n p at)) ∙ seen .live;
         files = left-files d (findName d directories n) ∙ seen .files;
         opened = λ p found live.
             let there : placeOf s n ≡ At p = sym left-place ∙ found in
-            let low = found-low s namesAt n p there in
+            let low = name-low s namesAt n p there in
             let o = seen .opened p there live in
             let now = staged p low there live in
             record {

@@ -19,7 +19,7 @@ use Rattle.metadata.specs.Tapes.{Tape}
 use Rattle.metadata.specs.declared.choice.Side.{Side}
 use Rattle.metadata.specs.declared.choice.Side.the-variants.{Left, Right}
 use Rattle.layout.specs.Names.{name, names, findName}
-use Rattle.layout.specs.NamesLaws.{find-names}
+use Rattle.layout.specs.NamesLaws.{name-low, find-names}
 use Rattle.layout.specs.Session.{namesAt}
 use Rattle.disk.specs.Steps.{sideBytes}
 use Rattle.session.specs.Meaning.{noView}
@@ -37,7 +37,7 @@ use Rattle.ending.specs.Listing.{isTouched, published, tapeIn, nextList}
 use Rattle.ending.specs.ListingAll.{next-only, next-all}
 use Rattle.seen.specs.Seen.{placeOf, shown, viewIn}
 use Rattle.seen.specs.Orderly.{listedAs, Recorded, Orderly}
-use Rattle.seen.specs.Places.{found-low, found-name, not-found}
+use Rattle.seen.specs.Places.{found-name, not-found}
 use Rattle.seen.specs.Shown.{shown-none}
 use Rattle.seen.specs.Kinds.{writes-open, cuts-open}
 
@@ -134,7 +134,7 @@ module _ (d s : List ℕ) (o : Orderly d s) (running : isOpenAt s 16 ≡ true) (
       where
         by : (found : Found) → placeOf s n ≡ found → listedAs n (nextList s cut) ≡ publishedIn found
         by (At p) e =
-            let low = found-low s namesAt n p e in
+            let low = name-low s namesAt n p e in
             let has = found-name s namesAt n p e in
             decide (published s cut p .listed)
             (λ (listed : published s cut p .listed ≡ true).
@@ -186,7 +186,7 @@ commit-recorded d s o t served =
   where
     same : (n : List ℕ) (found : Found) → placeOf s n ≡ found
         → publishedIn d s o (commit-open d s t served) (cuts s t) found ≡ viewIn (commitCall d s t .session) 17 found
-    same n (At p) e = ap shown (sym (commit-published d s (o .session-bytes) t served .list p (found-low s namesAt n p e)))
+    same n (At p) e = ap shown (sym (commit-published d s (o .session-bytes) t served .list p (name-low s namesAt n p e)))
     same n Nothing e = refl
 
 -- ---- what leaves it so

@@ -7,7 +7,6 @@ use mathlib.Core.Bool.{true, false, cond}
 use mathlib.Core.List.{List, [], _∷_}
 use Prim.Native.Nat.{ℕ, _≤_, _<_}
 use lib.ListN.{length}
-use Rattle.octets.specs.Cases.{and-both}
 use Rattle.octets.specs.Number.{Bytes}
 use Rattle.octets.specs.Compare.{sameBytes}
 use Rattle.metadata.specs.Tapes.{Tape}
@@ -16,15 +15,14 @@ use Rattle.metadata.specs.Decoding.{tapes}
 use Rattle.layout.specs.Names.{name}
 use Rattle.layout.specs.Disk.{directories}
 use Rattle.layout.specs.Disk as D
-use Rattle.layout.specs.DiskLaws as DL
-use Rattle.layout.specs.Session.{namesAt, handleNumber, begun, Begun}
-use Rattle.layout.specs.SessionLaws.{→begun}
+use Rattle.layout.specs.Session.{namesAt, handleNumber, Begun}
 use Rattle.session.specs.declared.views.View.{View}
 use Rattle.session.specs.Meaning.{noView}
 use Rattle.session.specs.Rows.{headOf, viewOf, transactionOf, stagedOf}
 use Rattle.rolling_tape.specs.Room.{isFound}
 use Rattle.beginning.specs.Transactions.{isOpenAt, usable}
 use Rattle.beginning.specs.Sessions.{theRecord}
+use Rattle.beginning.specs.Ways.{→usable}
 use Rattle.staging.specs.Seeing.{directoryOf, isAppend}
 use Rattle.ending.specs.CommitDurable.{Level}
 use Rattle.joins.specs.FilesAt.{Once}
@@ -77,5 +75,4 @@ pub record Orderly (d s : List ℕ) : Type 0 where
 
 -- a call may use them
 pub orderly-usable : (d s : List ℕ) → Orderly d s → usable d s ≡ true
-unfolding usable
-orderly-usable d s o = and-both (D.sound d) (begun s) (DL.→sound d (o .disk)) (→begun s (o .session))
+orderly-usable d s o = →usable d s (o .disk) (o .session)

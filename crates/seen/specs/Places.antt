@@ -11,10 +11,6 @@ use Rattle.octets.specs.declared.Found.the-variants.{At, Nothing}
 use Rattle.layout.specs.Names.{name, findName}
 
 module _ (s : List ℕ) (base : ℕ) (n : List ℕ) where
-  pub found-low : (p : ℕ) → findName s base n ≡ At p → p < 8
-  unfolding findName
-  found-low p e = omega (arith, first-hits (λ i. sameBytes (name s base i) n) 8 0 p e .high)
-
   pub found-name : (p : ℕ) → findName s base n ≡ At p → name s base p ≡ n
   unfolding findName
   found-name p e = same-true (name s base p) n (first-hits (λ i. sameBytes (name s base i) n) 8 0 p e .holds)

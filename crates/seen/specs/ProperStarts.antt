@@ -20,6 +20,7 @@ use Rattle.metadata.specs.Decoding.{tapes}
 use Rattle.metadata.specs.Rules.{good-first, good-others, good-tapes}
 use Rattle.metadata.specs.Tapes.{Tape, fits, goodAfter}
 use Rattle.layout.specs.Names.{name}
+use Rattle.layout.specs.NamesLaws.{name-low}
 use Rattle.layout.specs.Session.{namesAt}
 use Rattle.disk.specs.Meaning.{blank, diskOf}
 use Rattle.session.specs.BeginLaws.{nameOf, viewFor}
@@ -33,7 +34,7 @@ use Rattle.lives.specs.Life as Life
 use Rattle.seen.specs.Seen.{placeOf, viewIn}
 use Rattle.seen.specs.Orderly.{listedAs, Orderly}
 use Rattle.seen.specs.Proper.{Proper}
-use Rattle.seen.specs.Places.{found-low, found-name}
+use Rattle.seen.specs.Places.{found-name}
 use Rattle.seen.specs.Shown.{shown-keeps}
 use Rattle.seen.specs.Restarts.{same-list, name-stored, list-stored, named-tape, list-says}
 use Rattle.seen.specs.Formats.{blank-seen}
@@ -122,7 +123,7 @@ module _ (d area : List ℕ) (bytes : Bytes d) (served : codeOf (storeCall d are
         by (At q) e =
             record {
               place = q;
-              low = found-low s namesAt n q e;
+              low = name-low s namesAt n q e;
               same = found-name s namesAt n q e;
               listed = sym (shown-keeps (viewOf s 17 q)) ∙ (sym (ap (λ (f : Found). viewIn s 17 f .listed) e) ∙ word);
             }

@@ -8,7 +8,7 @@ use Prim.Native.Nat.{ℕ, _+_, _%_, _≤_, _<_}
 use native.Mathlib.Omega.{arith}
 use lib.Dec.{eqb, ltb}
 use lib.ListN.{length}
-use Rattle.octets.specs.Cases.{picked, order}
+use Rattle.octets.specs.Cases.{picked}
 use Rattle.octets.specs.Number.{Bytes}
 use Rattle.octets.specs.declared.Found.{Found}
 use Rattle.octets.specs.declared.Found.the-variants.{At, Nothing}
@@ -33,7 +33,7 @@ use Rattle.cached_tape.specs.Flushing.{unwrittenFrom}
 use Rattle.cached_tape.specs.Putting.{grown, putIn}
 use Rattle.beginning.specs.Transactions.{usable}
 use Rattle.staging.specs.Seeing.{directoryOf, seenBy, touchedAs, writes}
-use Rattle.staging.specs.Ways.{handle-found}
+use Rattle.staging.specs.Ways.{Held, handle-found}
 use Rattle.appending.specs.Room.{lowOf, endOf, lackingOf, lackingAll, noRoom}
 use Rattle.appending.specs.Calls.{putOn, putWhere, appendOn, appendIn, putCall}
 use Rattle.appending.specs.Laws.{Goes, put-slots}
@@ -46,8 +46,8 @@ use Rattle.seen.specs.Frames.{Frame, frame-folder, frame-number}
 use Rattle.seen.specs.Touching.{touched-row}
 use Rattle.seen.specs.Puts.{put-found, put-inside, put-is, put-frame, put-rows, sent, counted}
 use Rattle.seen.specs.Lacking.{room-left, same-lacking, open-lacking, other-lacking, but-one}
-use Rattle.seen.specs.Rooms.{Roomy, touched-same}
-use Rattle.seen.specs.Rows.{size-row}
+use Rattle.seen.specs.Rooms.{Roomy}
+use Rattle.seen.specs.Rows.{size-row, touched-as, open-named}
 use Rattle.joins.specs.Ranges.{lacking-last, last-part}
 
 -- no more is unwritten than was, and what was put
@@ -71,16 +71,12 @@ module _ (d s : List ℕ) (o : Orderly d s) (k h : ℕ) (bs : List ℕ) (bytes :
   frame : Frame d s (behind .disk) (behind .session)
   frame = put-frame d s o k h bs bytes p place g inside
 
-  low : p < 8
-  low = handle-found s h p (g .found) .low
-
-  held : handleNumber s p ≢ 0
-  held = handle-found s h p (g .found) .held
+  open Held (handle-found s h p (g .found)) using (low, held)
 
   -- an open tape in another place has another directory
   folder-apart : (q : ℕ) → q < 8 → q ≢ p → handleNumber s q ≢ 0 → (there : ℕ) → directoryOf d s q ≡ At there → there ≢ place
   folder-apart q small apart opened there at same =
-      let named : 0 < length (name s namesAt q) = order 0 (length (name s namesAt q)) (λ l. l) (λ l. absurd (opened (o .free-shut q small (omega arith)))) in
+      let named : 0 < length (name s namesAt q) = open-named d s o q small opened in
       let theirs : name d directories there ≡ name s namesAt q = found-name d directories (name s namesAt q) there at in
       let mine : name d directories place ≡ name s namesAt p = found-name d directories (name s namesAt p) place (g .on .there) in
       apart (o .names q p small low named (sym theirs ∙ ap (name d directories) same ∙ mine))
@@ -89,7 +85,7 @@ module _ (d s : List ℕ) (o : Orderly d s) (k h : ℕ) (bs : List ℕ) (bytes :
   others-lack q small apart =
       let b = put-rows d s o k h bs bytes p place g inside in
       let f = frame in
-      let row-same = touched-same s (behind .session) q (b .others q small apart .staged) (f .views 16 q (omega arith) small) in
+      let row-same = touched-as s (behind .session) q (b .others q small apart .staged) (f .views 16 q (omega arith) small) in
       same-lacking d s (behind .disk) (behind .session) q small
       (λ opened.
       record {

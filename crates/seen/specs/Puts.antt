@@ -29,8 +29,8 @@ use Rattle.cached_tape.specs.Putting.{sentTo, grown, putIn}
 use Rattle.cached_tape.specs.PutLaws.{sound-putIn, begun-putIn, bytes-putIn-disk, bytes-putIn-session}
 use Rattle.beginning.specs.Laws.{refusal-some}
 use Rattle.staging.specs.Seeing.{touchedAs}
-use Rattle.staging.specs.Ways.{handle-found}
-use Rattle.staging.specs.Laws.{touched-fits, touched-held}
+use Rattle.staging.specs.Ways.{Held as OpenTape, handle-found}
+use Rattle.staging.specs.Laws.{touched-fits, unwritten-held}
 use Rattle.appending.specs.Room.{lowOf, endOf, lackingOf}
 use Rattle.appending.specs.Calls.{doneIn, putCall}
 use Rattle.appending.specs.CallWays.{seen-touched}
@@ -86,17 +86,13 @@ module _ (d s : List ℕ) (o : Orderly d s) (k h : ℕ) (bs : List ℕ) (bytes :
   abbrev behind : Areas
   behind = putIn before place p (touchedAs s p) bs
 
-  low : p < 8
-  low = handle-found s h p (g .found) .low
-
-  held : handleNumber s p ≢ 0
-  held = handle-found s h p (g .found) .held
+  open OpenTape (handle-found s h p (g .found)) using (low, held)
 
   there : place < 8
   there = directory-low d (name s namesAt p) place (g .on .there)
 
   pending : row .unwritten ≤ ringLen s p
-  pending = touched-held s p (o .session) low held
+  pending = unwritten-held s p (o .session) low held
 
   fits : row .len + length bs < 2 ^ 64
   fits = omega (arith, seen-touched s p, g .on .fits)

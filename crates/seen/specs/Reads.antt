@@ -3,8 +3,8 @@
 use mathlib.Core.Path.{_≡_, refl, sym, ap, _∙_, subst}
 use mathlib.Core.Logic.{_≢_}
 use mathlib.Core.Bool.{Bool, true, false, true≢false, _&&_}
-use mathlib.Core.Option.{Option, some, Option·none-ne-some, Option·some-injective}
-use mathlib.Core.List.{List, [], _∷_, map}
+use mathlib.Core.Option.{Option, some, Option·some-injective}
+use mathlib.Core.List.{List}
 use Prim.Native.Nat.{ℕ, _+_, _*_, _-_, _/_, _≤_, _<_}
 use native.Mathlib.Nat.{one-mul, add-mul, div-mul-le-self}
 use native.Mathlib.Omega.{arith}
@@ -21,18 +21,20 @@ use Rattle.answers.specs.declared.OneEntry.the-variants.{Entry}
 use Rattle.components.specs.BoundsLaws.{→in-bounds}
 use Rattle.layout.specs.Disk.{directories}
 use Rattle.layout.specs.Names.{findName}
+use Rattle.layout.specs.NamesLaws.{name-low}
 use Rattle.layout.specs.Session.{namesAt, handleNumber, entrySize}
 use Rattle.session.specs.MeaningLaws.{isOpen}
 use Rattle.session.specs.Rows.{viewOf, transactionOf, handleOf, stagedOf, findTransaction, findHandle}
 use Rattle.session.specs.declared.transactions.Kind.{Kind}
 use Rattle.session.specs.declared.transactions.Kind.the-variants as K
 use Rattle.session.specs.declared.views.View.{View}
+use Rattle.session.specs.RowLaws.{handle-entry}
 use Rattle.rolling_tape.specs.Removal.{areas}
 use Rattle.rolling_tape.specs.Room.{isFound}
 use Rattle.cached_tape.specs.Serving.{canServe, served}
 use Rattle.beginning.specs.Transactions.{isOpenAt, usable}
 use Rattle.beginning.specs.Ways.{→usable}
-use Rattle.staging.specs.Seeing.{directoryOf, isTruncate, cuts, seenBy, touchedAs, lenCall, startCall}
+use Rattle.staging.specs.Seeing.{directoryOf, isAppend, isTruncate, writes, cuts, seenBy, touchedAs, lenCall, startCall}
 use Rattle.staging.specs.Cutting.{cutTo}
 use Rattle.staging.specs.Ways.{seen-view, len-listed, start-listed, len-goes, start-goes}
 use Rattle.appending.specs.Calls.{putCall}
@@ -41,51 +43,65 @@ use Rattle.appending.specs.Laws.{put-cases}
 use Rattle.entries.specs.Laws.{Inside, filled, read-done, pop-done}
 use Rattle.entries.specs.Popping.{popCall}
 use Rattle.entries.specs.Reads.{readCall, entryCall}
-use Rattle.entries.specs.Ways.{handle-entry, entry-read}
+use Rattle.entries.specs.Ways.{entry-read}
 use Rattle.held.specs.Held.{Held, fetch}
 use Rattle.joins.specs.FilesAt.{filesAt, heldAt}
 use Rattle.joins.specs.Fetches.{fetch-served}
 use Rattle.lives.specs.Life.{Reader, Writer, Store}
-use Rattle.lives.specs.Told.{Window, Staging, idle, appending, cutting, Told, Page, pageIn, pageOf, page}
-use Rattle.lives.specs.Invariant.{Phys, erase, eraseW, build, isAppend, GoodIf, Good}
+use Rattle.lives.specs.Told.{Window, Staging, idle, appending, cutting, Told, Page, pageW, pageIn, pageOf, page}
+use Rattle.lives.specs.Invariant.{Phys, erase, eraseW, build, isAppend as isAppending, GoodIf, Good}
 use Rattle.lives.specs.Reads.{reads-held}
 use Rattle.seen.specs.Seen.{placeOf, shown, viewIn, readerIn, writerAs, writerIn, countIn, filesIn, Seen, Handled}
 use Rattle.seen.specs.Orderly.{Orderly}
-use Rattle.seen.specs.Counts.{in-hit, in-miss, open-some}
+use Rattle.seen.specs.Counts.{page-counted, open-some}
 use Rattle.seen.specs.Shown.{shown-listed}
 use Rattle.seen.specs.Handles.{Placed, handle-place, live-at}
-use Rattle.seen.specs.Places.{found-low}
 use Rattle.seen.specs.Starts.{CutStarts}
 use Rattle.seen.specs.Transactions.{find-transaction}
 
 -- ---- what the writer's row says
 
-record Appends (k : Kind) (number : ℕ) (v : View) (m : ℕ) (h : Bool) (l st : ℕ) : Type 0 where
-  runs : isOpen k ≡ true
-  own : number ≡ m
-  view : v ≡ record { listed = h; len = l; start = st }
+pub record Appends (k : Kind) (number : ℕ) (v : View) (m : ℕ) (h : Bool) (l st : ℕ) : Type 0 where
+  pub kind : isAppend k ≡ true
+  pub runs : isOpen k ≡ true
+  pub own : number ≡ m
+  pub view : v ≡ record { listed = h; len = l; start = st }
 
-record Cuts (k : Kind) (number : ℕ) (v : View) (m l : ℕ) : Type 0 where
-  kind : isTruncate k ≡ true
-  runs : isOpen k ≡ true
-  own : number ≡ m
-  len : v .len ≡ l
+pub record Cuts (k : Kind) (number : ℕ) (v : View) (m l : ℕ) : Type 0 where
+  pub kind : isTruncate k ≡ true
+  pub runs : isOpen k ≡ true
+  pub own : number ≡ m
+  pub len : v .len ≡ l
 
-writer-appends : (k : Kind) (number epoch : ℕ) (v : View) (m e : ℕ) (h : Bool) (l st : ℕ) → writerAs k number epoch v ≡ Writer.appending m e h l st → Appends k number v m h l st
+pub writer-appends : (k : Kind) (number epoch : ℕ) (v : View) (m e : ℕ) (h : Bool) (l st : ℕ) → writerAs k number epoch v ≡ Writer.appending m e h l st → Appends k number v m h l st
 writer-appends K.Closed number epoch v m e h l st is = let z : _≡_ {A = ℕ} 0 1 = cc in absurd (omega arith)
 writer-appends K.Reader number epoch v m e h l st is = let z : _≡_ {A = ℕ} 0 1 = cc in absurd (omega arith)
 writer-appends K.Append number epoch v m e h l st is =
     let a : v .listed ≡ h = cc in
     let b : v .len ≡ l = cc in
     let c : v .start ≡ st = cc in
-    record { runs = refl; own = cc; view = λ i. record { listed = a i; len = b i; start = c i } }
+    record { kind = refl; runs = refl; own = cc; view = λ i. record { listed = a i; len = b i; start = c i } }
 writer-appends K.Truncate number epoch v m e h l st is = let z : _≡_ {A = ℕ} 0 1 = cc in absurd (omega arith)
 
-writer-cuts : (k : Kind) (number epoch : ℕ) (v : View) (m l : ℕ) → writerAs k number epoch v ≡ Writer.cutting m l → Cuts k number v m l
+pub writer-cuts : (k : Kind) (number epoch : ℕ) (v : View) (m l : ℕ) → writerAs k number epoch v ≡ Writer.cutting m l → Cuts k number v m l
 writer-cuts K.Closed number epoch v m l is = let z : _≡_ {A = ℕ} 0 1 = cc in absurd (omega arith)
 writer-cuts K.Reader number epoch v m l is = let z : _≡_ {A = ℕ} 0 1 = cc in absurd (omega arith)
 writer-cuts K.Append number epoch v m l is = let z : _≡_ {A = ℕ} 0 1 = cc in absurd (omega arith)
 writer-cuts K.Truncate number epoch v m l is = record { kind = refl; runs = refl; own = cc; len = cc }
+
+-- so the append, or the truncate, that is seen is the open one
+module _ (d s n : List ℕ) (st : Store) (seen : Seen d s n st) (m : ℕ) where
+  pub seen-writes : (e : ℕ) (h : Bool) (l b : ℕ) → st .writer ≡ Writer.appending m e h l b → writes s m ≡ true
+  unfolding writes
+  seen-writes e h l b is =
+      let a = writer-appends (transactionOf s 16 .kind) (transactionOf s 16 .number) (transactionOf s 16 .epoch) _ m e h l b (seen .writer ∙ is) in
+      and-both (isAppend (transactionOf s 16 .kind)) (eqb (transactionOf s 16 .number) m) (a .kind) (eq-eqb (transactionOf s 16 .number) m (a .own))
+
+  pub seen-cuts : (l : ℕ) → st .writer ≡ Writer.cutting m l → cuts s m ≡ true
+  unfolding cuts
+  seen-cuts l is =
+      let a = writer-cuts (transactionOf s 16 .kind) (transactionOf s 16 .number) (transactionOf s 16 .epoch) _ m l (seen .writer ∙ is) in
+      and-both (isTruncate (transactionOf s 16 .kind)) (eqb (transactionOf s 16 .number) m) (a .kind) (eq-eqb (transactionOf s 16 .number) m (a .own))
 
 -- ---- what a transaction sees of the tape is its page
 
@@ -113,24 +129,12 @@ shown-as v len start e = shown-listed v _ e refl .1
 abbrev isPage : ℕ → Page → Reader → Bool
 isPage k q r = eqb (r .number) k && (r .here && (eqb (r .len) (length (q .content)) && eqb (r .start) (q .start)))
 
-page-counted : (k : ℕ) (q : Page) → q .here ≡ true → (ws : List Window) → pageIn k ws ≡ some q → 0 < countIn (isPage k q) (map erase ws)
-unfolding pageIn
-page-counted k q here [] = λ e. absurd (Option·none-ne-some q e)
-page-counted k q here (w ∷ ws) =
-    picked (λ (x : Option Page). x ≡ some q → 0 < countIn (isPage k q) (map erase (w ∷ ws))) (eqb k (w .number))
-    (some (record { here = w .here; start = w .start; content = w .content })) (pageIn k ws)
-    (λ m e.
-    let own : record { here = w .here; start = w .start; content = w .content } ≡ q = Option·some-injective _ _ e in
+is-page : (k : ℕ) (q : Page) → q .here ≡ true → (w : Window) → eqb k (w .number) ≡ true → pageW w ≡ q → isPage k q (erase w) ≡ true
+is-page k q here w m own =
     let listed : w .here ≡ true = ap (λ (x : Page). x .here) own ∙ here in
     let long = eq-eqb (length (w .content)) (length (q .content)) (ap (λ (x : Page). length (x .content)) own) in
     let from = eq-eqb (w .start) (q .start) (ap (λ (x : Page). x .start) own) in
-    let is : isPage k q (erase w) ≡ true = rw (eq-eqb (w .number) k (sym (eqb-true k (w .number) m)), listed, long, from) in
-    omega (arith, in-hit (isPage k q) (erase w) (map erase ws) is))
-    (λ m e.
-    let rest = page-counted k q here ws e in
-    decide (isPage k q (erase w))
-    (λ h. omega (arith, in-hit (isPage k q) (erase w) (map erase ws) h))
-    (λ h. omega (arith, in-miss (isPage k q) (erase w) (map erase ws) h)))
+    rw (eq-eqb (w .number) k (sym (eqb-true k (w .number) m)), listed, long, from)
 
 module _ (d s n : List ℕ) (o : Orderly d s) (st : Store) (seen : Seen d s n st) (p : ℕ) (at : placeOf s n ≡ At p) where
   -- a reader's, by its number, bounds and length
@@ -170,22 +174,22 @@ module _ (d s n : List ℕ) (o : Orderly d s) (st : Store) (seen : Seen d s n st
     unfolding seenBy
     cut-seen kind listed =
         decide (stagedOf s p .touched)
-        (λ (t : stagedOf s p .touched ≡ true). rw t (refl, starts kind p (found-low s namesAt n p at) t))
+        (λ (t : stagedOf s p .touched ≡ true). rw t (refl, starts kind p (name-low s namesAt n p at) t))
         (λ (t : stagedOf s p .touched ≡ false). rw t (listed, refl))
 
     cut-sight : (k len : ℕ) → st .listed ≡ true → st .writer ≡ Writer.cutting k len → CutSight s k p (record { listed = true; len = len; start = st .start })
-    unfolding isOpenAt cuts
+    unfolding isOpenAt
     cut-sight k len listed is =
         let a = writer-cuts (transactionOf s 16 .kind) (transactionOf s 16 .number) (transactionOf s 16 .epoch) _ k len (own ∙ is) in
         let list : shown (viewOf s 17 p) ≡ record { listed = st .listed; len = st .len; start = st .start } = ap (viewIn s 17) (sym at) ∙ seen .list in
         let whole : viewOf s 17 p ≡ shown (viewOf s 17 p) = shown-listed (viewOf s 17 p) (shown (viewOf s 17 p)) refl (ap (λ (x : View). x .listed) list ∙ listed) .1 in
-        let began : viewOf s 16 p ≡ record { listed = st .listed; len = st .len; start = st .start } = o .writer-view (a .runs) p (found-low s namesAt n p at) ∙ whole ∙ list in
+        let began : viewOf s 16 p ≡ record { listed = st .listed; len = st .len; start = st .start } = o .writer-view (a .runs) p (name-low s namesAt n p at) ∙ whole ∙ list in
         let (here, start) = cut-seen (a .kind) (ap (λ (x : View). x .listed) began ∙ listed) in
         let first : seenBy s 16 p .start ≡ st .start = start ∙ ap (λ (x : View). x .start) began in
         let long : seenBy s 16 p .len ≡ len = ap (λ (x : View). x .len) (shown-listed (seenBy s 16 p) (shown (seenBy s 16 p)) refl (rw here) .1) ∙ a .len in
         record {
           found = find-transaction d s o k 16 (record { low = omega arith; opened = a .runs; number = a .own });
-          writer = and-both (isTruncate (transactionOf s 16 .kind)) (eqb (transactionOf s 16 .number) k) (a .kind) (eq-eqb (transactionOf s 16 .number) k (a .own));
+          writer = seen-cuts d s n st seen k len is;
           view = λ i. record { listed = here i; len = long i; start = first i };
         }
 
@@ -195,7 +199,7 @@ module _ (d s n : List ℕ) (o : Orderly d s) (starts : CutStarts s) (t : Told) 
   sight k q is here = by (t .writer) refl is
     where
       window : pageIn k (t .windows) ≡ some q → Sight s k a (viewP q)
-      window e = reader-sight d s n o (build t p) seen a at k q (page-counted k q here (t .windows) e)
+      window e = reader-sight d s n o (build t p) seen a at k q (page-counted (isPage k q) k q (is-page k q here) (t .windows) e)
 
       by : (w : Staging) → t .writer ≡ w → pageOf k t w ≡ some q → Sight s k a (viewP q)
       by idle e = window
@@ -340,7 +344,7 @@ module _ (d s n : List ℕ) (letters : 0 < length n) (o : Orderly d s) (t : Told
       cut-page = record { here = true; start = t .start; content = c }
 
       listed : t .listed ≡ true
-      listed = subst (λ (b : Bool). GoodIf b t p) live good .shown (ap isAppend writer)
+      listed = subst (λ (b : Bool). GoodIf b t p) live good .shown (ap isAppending writer)
 
       cut-sees : CutSight s k (tape .place) (viewP cut-page)
       cut-sees = cut-sight d s n o (build t p) seen (tape .place) (tape .at) starts k (length c) listed (ap (eraseW (t .epoch)) writer)

@@ -24,6 +24,7 @@ use Rattle.metadata.specs.declared.choice.Side.the-variants.{Left, Right}
 use Rattle.layout.specs.Disk.{directories}
 use Rattle.layout.specs.Disk as D
 use Rattle.layout.specs.Names.{name, findName}
+use Rattle.layout.specs.NamesLaws.{name-low}
 use Rattle.layout.specs.Session.{namesAt, handleNumber}
 use Rattle.disk.specs.Meaning.{Disk, diskOf, slotWith}
 use Rattle.disk.specs.Steps.{sideBytes}
@@ -36,6 +37,7 @@ use Rattle.session.specs.declared.tape_rows.Staged.{Staged}
 use Rattle.session.specs.declared.tracking.Tracking.{Tracking}
 use Rattle.session.specs.declared.tracking.Tracking.the-variants.{Untracked}
 use Rattle.session.specs.declared.views.View.{View}
+use Rattle.session.specs.RowLaws.{handle-numbered}
 use Rattle.rolling_tape.specs.Files.{fileAt, filesOf}
 use Rattle.beginning.specs.Laws.{refusal-some}
 use Rattle.beginning.specs.Sessions.{theRecord, storeCall}
@@ -46,10 +48,10 @@ use Rattle.held.specs.Held.{forget}
 use Rattle.joins.specs.FilesAt.{Once}
 use Rattle.lives.specs.Life.{Reader, Store, restart, step, idle}
 use Rattle.lives.specs.Life as Life
-use Rattle.seen.specs.Seen.{placeOf, shown, viewIn, readerIn, writerIn, touchedIn, liveIn, handleIn, filesIn, filesFor, countIn, countOpen, Seen, Handled}
+use Rattle.seen.specs.Seen.{placeOf, shown, viewIn, readerIn, writerIn, touchedIn, isOpenTape, handleIn, filesIn, filesFor, countIn, countOpen, Seen, Handled}
 use Rattle.seen.specs.Orderly.{listedAs, Recorded, Orderly}
-use Rattle.seen.specs.Places.{found-low, found-name, not-found}
-use Rattle.seen.specs.Rows.{number-of, shut-row}
+use Rattle.seen.specs.Places.{found-name, not-found}
+use Rattle.seen.specs.Rows.{shut-row}
 use Rattle.seen.specs.Lists.{wordOf, listed-hit, listed-miss}
 
 -- ---- a list that may be stored: names are not empty, and none occurs twice
@@ -160,7 +162,7 @@ module _ (d s : List ℕ) (bytes : Bytes d) (served : codeOf (storeCall d s .ans
   shut-stored t low = shut-row u t (transaction-stored t low)
 
   pub number-stored : (p : ℕ) → p < 8 → handleNumber u p ≡ 0
-  number-stored p low = number-of u p noHandle (handle-stored p low)
+  number-stored p low = sym (handle-numbered u p noHandle (sym (handle-stored p low)))
 
   pub untouched-stored : (p : ℕ) → p < 8 → stagedOf u p .touched ≡ false
   untouched-stored p low = ap (λ (r : Staged). r .touched) (staged-stored p low)
@@ -200,7 +202,7 @@ module _ (d s : List ℕ) (bytes : Bytes d) (served : codeOf (storeCall d s .ans
     where
       by : (found : Found) → placeOf u n ≡ found → listedAs n ts ≡ viewIn u 17 found
       by (At p) e =
-          let low = found-low u namesAt n p e in
+          let low = name-low u namesAt n p e in
           let has = found-name u namesAt n p e in
           let one = named-tape p low (rw has long) in
           listed-at n [] ts good p (one .tape) (one .at) (sym (one .has) ∙ has)
@@ -290,21 +292,21 @@ module _ (d s : List ℕ) (bytes : Bytes d) (served : codeOf (storeCall d s .ans
   touched-after = by place refl
     where
       by : (found : Found) → place ≡ found → touchedIn w found ≡ false
-      by (At p) e = untouched-stored d s bytes served p (found-low w namesAt n p e)
+      by (At p) e = untouched-stored d s bytes served p (name-low w namesAt n p e)
       by Nothing e = refl
 
   pub handle-after : handleIn w place ≡ 0
   handle-after = by place refl
     where
       by : (found : Found) → place ≡ found → handleIn w found ≡ 0
-      by (At p) e = number-stored d s bytes served p (found-low w namesAt n p e)
+      by (At p) e = number-stored d s bytes served p (name-low w namesAt n p e)
       by Nothing e = refl
 
-  pub live-after : liveIn w place ≡ false
+  pub live-after : isOpenTape w place ≡ false
   live-after = by place refl
     where
-      by : (found : Found) → place ≡ found → liveIn w found ≡ false
-      by (At p) e = rw (number-stored d s bytes served p (found-low w namesAt n p e))
+      by : (found : Found) → place ≡ found → isOpenTape w found ≡ false
+      by (At p) e = rw (number-stored d s bytes served p (name-low w namesAt n p e))
       by Nothing e = refl
 
   pub readers-after : (has : Reader → Bool) → countOpen has w place ≡ 0

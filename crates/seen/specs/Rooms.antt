@@ -44,7 +44,7 @@ use Rattle.touches.specs.Begins.{append-leaves, reader-touches, reader-leaves}
 use Rattle.touches.specs.Drops.{drop-reader-touches}
 use Rattle.touches.specs.Rows.{view-stays, transaction-stays, handle-stays, staged-stays, name-stays}
 use Rattle.seen.specs.Orderly.{Orderly}
-use Rattle.seen.specs.Rows.{number-row}
+use Rattle.seen.specs.Rows.{number-row, touched-as}
 use Rattle.seen.specs.Kinds.{append-open, writes-kind, cuts-kind}
 use Rattle.seen.specs.Frames.{frame-folder, frame-number}
 use Rattle.seen.specs.Touching.{touched-row}
@@ -77,11 +77,6 @@ pub roomy-same : (d s e u : List ℕ) → transactionOf u 16 ≡ transactionOf s
 roomy-same d s e u kind many used same roomy is =
     rw (many, used, all-lacking d s e u same) (roomy (rw kind at is))
 
--- rows that are as they were
-pub touched-same : (s u : List ℕ) (q : ℕ) → stagedOf u q ≡ stagedOf s q → viewOf u 16 q ≡ viewOf s 16 q → touchedAs u q ≡ touchedAs s q
-unfolding touchedAs
-touched-same s u q staged view = rw (staged, view)
-
 -- where no append is open nothing is asked
 pub idle-roomy : (d s : List ℕ) → isOpenAt s 16 ≡ false → Roomy d s
 unfolding isOpenAt
@@ -103,7 +98,7 @@ rows-roomy d s u kind rows =
     roomy-same d s d u kind refl refl
     (λ q low.
     let r = rows q low in
-    let row = touched-same s u q (r .staged) (r .view) in
+    let row = touched-as s u q (r .staged) (r .view) in
     same-lacking d s d u q low
     (λ held.
     record {
@@ -164,7 +159,7 @@ module _ (d s : List ℕ) (k h i : ℕ) (o : Orderly d s) (served : codeOf (shif
       = λ get own.
       equal q p
       (λ (e : q ≡ p). rw e (ap get (touched-row u p (rw (b .staged)) ∙ b .staged) ∙ own))
-      (λ (e : q ≢ p). ap get (touched-same s u q (b .others q low e .staged) (f .views 16 q (omega arith) low))) in
+      (λ (e : q ≢ p). ap get (touched-as s u q (b .others q low e .staged) (f .views 16 q (omega arith) low))) in
       record {
         handle = f .handles q low;
         base = part (λ (r : Staged). r .base) refl;
@@ -193,7 +188,7 @@ Fine a = (codeOf a ≢ 15) × (codeOf a ≢ 16)
 
 module _ (d s : List ℕ) (o : Orderly d s) where
   -- each tape that was touched has its directory
-  all-there : allThere d s ≡ true
+  pub all-there : allThere d s ≡ true
   unfolding allThere isTouched
   all-there =
       all-true (hasDirectory d s) 8 0

@@ -13,36 +13,29 @@ use Rattle.octets.specs.First.{count-same}
 use Rattle.octets.specs.declared.Found.{Found}
 use Rattle.octets.specs.declared.Found.the-variants.{At, Nothing}
 use Rattle.layout.specs.Names.{name}
+use Rattle.layout.specs.NamesLaws.{name-low}
 use Rattle.layout.specs.Session.{namesAt, handleNumber, entrySize, fileSize}
-use Rattle.session.specs.declared.tape_rows.Handle.{Handle}
 use Rattle.session.specs.declared.tape_rows.Staged.{Staged}
 use Rattle.session.specs.Meaning.{closed}
 use Rattle.session.specs.Rows.{headOf, viewOf, transactionOf, handleOf, stagedOf}
+use Rattle.session.specs.RowLaws.{handle-numbered, handle-entry, handle-size}
 use Rattle.beginning.specs.Transactions.{isOpenAt}
 use Rattle.staging.specs.Seeing.{seenBy, touchedAs}
 use Rattle.ending.specs.Listing.{isTouched}
 use Rattle.lives.specs.Life.{Reader, Store}
-use Rattle.seen.specs.Seen.{placeOf, shown, viewIn, stagedIn, readerIn, touchedIn, liveIn, handleIn, entryIn, countOpen, Seen, Handled}
+use Rattle.seen.specs.Seen.{placeOf, shown, viewIn, stagedIn, readerIn, touchedIn, isOpenTape, handleIn, entryIn, countOpen, Seen, Handled}
 use Rattle.seen.specs.Orderly.{Orderly}
-use Rattle.seen.specs.Places.{found-low}
 
 -- ---- a handle's row
 
-pub number-of : (u : List ℕ) (p : ℕ) (h : Handle) → handleOf u p ≡ h → handleNumber u p ≡ h .number
-unfolding handleOf
-number-of u p h e = ap (λ (x : Handle). x .number) e
-
 pub number-row : (s u : List ℕ) (p : ℕ) → handleOf u p ≡ handleOf s p → handleNumber u p ≡ handleNumber s p
-unfolding handleOf
-number-row s u p e = ap (λ (h : Handle). h .number) e
+number-row s u p e = sym (handle-numbered u p (handleOf s p) (sym e)) ∙ handle-numbered s p (handleOf s p) refl
 
 pub entry-row : (s u : List ℕ) (p : ℕ) → handleOf u p ≡ handleOf s p → entrySize u p ≡ entrySize s p
-unfolding handleOf
-entry-row s u p e = ap (λ (h : Handle). h .entry) e
+entry-row s u p e = sym (handle-entry u p (handleOf s p) (sym e)) ∙ handle-entry s p (handleOf s p) refl
 
 pub size-row : (s u : List ℕ) (p : ℕ) → handleOf u p ≡ handleOf s p → fileSize u p ≡ fileSize s p
-unfolding handleOf
-size-row s u p e = ap (λ (h : Handle). h .«file_size») e
+size-row s u p e = sym (handle-size u p (handleOf s p) (sym e)) ∙ handle-size s p (handleOf s p) refl
 
 -- ---- a transaction's row
 
@@ -121,7 +114,7 @@ pub staged-in : (s u : List ℕ) (tape : Found) → ((p : ℕ) → tape ≡ At p
 staged-in s u (At p) rows views = ap shown (seen-as s u p (rows p refl) (views p refl))
 staged-in s u Nothing rows views = refl
 
-live-in : (s u : List ℕ) (tape : Found) → ((p : ℕ) → tape ≡ At p → handleOf u p ≡ handleOf s p) → liveIn u tape ≡ liveIn s tape
+live-in : (s u : List ℕ) (tape : Found) → ((p : ℕ) → tape ≡ At p → handleOf u p ≡ handleOf s p) → isOpenTape u tape ≡ isOpenTape s tape
 live-in s u (At p) rows = rw (number-row s u p (rows p refl))
 live-in s u Nothing rows = refl
 
@@ -138,8 +131,8 @@ module _ (s u n : List ℕ) (place : placeOf u n ≡ placeOf s n) where
   view-rows w rows = ap (viewIn u w) place ∙ view-in s u (placeOf s n) w rows
 
   module _ (rows : (p : ℕ) → placeOf s n ≡ At p → handleOf u p ≡ handleOf s p) where
-    pub live-rows : liveIn u (placeOf u n) ≡ liveIn s (placeOf s n)
-    live-rows = ap (liveIn u) place ∙ live-in s u (placeOf s n) rows
+    pub live-rows : isOpenTape u (placeOf u n) ≡ isOpenTape s (placeOf s n)
+    live-rows = ap (isOpenTape u) place ∙ live-in s u (placeOf s n) rows
 
     pub handled-rows : (handle entry : ℕ) → Handled s n handle entry → Handled u n handle entry
     handled-rows handle entry its =
@@ -170,4 +163,4 @@ module _ (d s n : List ℕ) (st : Store) (seen : Seen d s n st) (p : ℕ) (found
   list-at = sym (ap (viewIn s 17) found) ∙ seen .list
 
   pub touched-at : Orderly d s → isTouched s p ≡ st .touched
-  touched-at o = touched-staged d s o p (found-low s namesAt n p found) ∙ sym (ap (touchedIn s) found) ∙ seen .touched
+  touched-at o = touched-staged d s o p (name-low s namesAt n p found) ∙ sym (ap (touchedIn s) found) ∙ seen .touched

@@ -2,16 +2,15 @@
 -- table there and in a list here, so of them it says that they are the same ones: as many have any property. Assumes nothing.
 use mathlib.Core.Path.{_≡_}
 use mathlib.Core.Logic.{_≢_}
-use mathlib.Core.Bool.{Bool, true, false, cond, not, _&&_}
+use mathlib.Core.Bool.{Bool, true, false, cond, _&&_}
 use mathlib.Core.List.{List, [], _∷_}
 use Prim.Native.Nat.{ℕ, suc}
-use lib.Dec.{eqb}
 use Rattle.octets.specs.First.{count}
 use Rattle.octets.specs.declared.Found.{Found}
 use Rattle.octets.specs.declared.Found.the-variants.{At, Nothing}
 use Rattle.layout.specs.Names.{findName}
 use Rattle.layout.specs.Disk.{directories}
-use Rattle.layout.specs.Session.{namesAt, handleNumber, entrySize, fileSize}
+use Rattle.layout.specs.Session.{handleNumber, entrySize, fileSize}
 use Rattle.components.specs.Files.{Files, noFiles}
 use Rattle.session.specs.declared.transactions.Kind.{Kind}
 use Rattle.session.specs.declared.transactions.Kind.the-variants as K
@@ -23,10 +22,8 @@ use Rattle.beginning.specs.Transactions.{isOpenAt}
 use Rattle.staging.specs.Seeing.{seenBy, touchedAs}
 use Rattle.joins.specs.FilesAt.{filesAt}
 use Rattle.lives.specs.Life.{Reader, Writer, idle, appending, cutting, Store}
-
--- the place of a tape in the session
-abbrev pub placeOf : List ℕ → List ℕ → Found
-placeOf s n = findName s namesAt n
+-- the place of a tape in the session, and whether the tape there has a handle
+pub use Rattle.opening.specs.Calls.{placeOf, isOpenTape}
 
 -- a view that lists nothing says nothing else
 abbrev pub shown : View → View
@@ -65,11 +62,6 @@ writerIn s tape = writerAs (transactionOf s 16 .kind) (transactionOf s 16 .numbe
 abbrev pub touchedIn : List ℕ → Found → Bool
 touchedIn s (At p) = stagedOf s p .touched
 touchedIn s Nothing = false
-
--- it has a handle
-abbrev pub liveIn : List ℕ → Found → Bool
-liveIn s (At p) = not (eqb (handleNumber s p) 0)
-liveIn s Nothing = false
 
 abbrev pub filesIn : List ℕ → List ℕ → Found → Files
 filesIn d s (At place) = filesAt (areas d s) place
@@ -113,7 +105,7 @@ pub record Seen (d s n : List ℕ) (st : Store) : Type 0 where
   pub readers : (has : Reader → Bool) → countOpen has s (placeOf s n) ≡ countIn has (st .readers)
   pub writer : writerIn s (placeOf s n) ≡ st .writer
   pub touched : touchedIn s (placeOf s n) ≡ st .touched
-  pub live : liveIn s (placeOf s n) ≡ st .live
+  pub live : isOpenTape s (placeOf s n) ≡ st .live
   pub files : filesFor d s n ≡ st .held .files
   pub opened : (p : ℕ) → placeOf s n ≡ At p → st .live ≡ true → SeenOpen s p st
 

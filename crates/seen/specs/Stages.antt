@@ -17,7 +17,7 @@ use Rattle.layout.specs.Names.{findName}
 use Rattle.layout.specs.Session.{tapeAt, entrySize, Begun}
 use Rattle.session.specs.declared.tape_rows.Staged.{Staged}
 use Rattle.session.specs.Rows.{transactionOf, handleOf, ringOf, ringBytes, putStaged, findHandle}
-use Rattle.session.specs.RowLaws.{StagedFits, only-putStaged}
+use Rattle.session.specs.RowLaws.{StagedFits, only-putStaged, handle-entry}
 use Rattle.session.specs.KeepLaws.{begun-ready, bytes-putStaged}
 use Rattle.disk.specs.Meaning.{diskOf}
 use Rattle.rolling_tape.specs.Files.{filesOf}
@@ -116,10 +116,6 @@ pub record Finds (d s : List ℕ) (w : Bool) (h i : ℕ) : Type 0 where
   pub place : ℕ
   pub goes : Goes d s w h place i
 
-pub entry-of : (s : List ℕ) (p : ℕ) → handleOf s p .entry ≡ entrySize s p
-unfolding handleOf
-entry-of s p = refl
-
 -- ---- a shift
 
 model-shift : (st : Store) (k began len start to : ℕ) → st .writer ≡ appending k began true len start → st .live ≡ true → to ≤ len
@@ -184,12 +180,12 @@ module _ (d s : List ℕ) (k h i : ℕ) (o : Orderly d s) (served : codeOf (shif
   shift-is : shiftCall d s k h i .session ≡ shifted s (shift-found .place) (i * entrySize s (shift-found .place))
   shift-is =
       ap (λ (a : Real.After). a .session) (shift-done d s k h (shift-found .place) i (shift-found .goes))
-      ∙ ap (λ (e : ℕ). shifted s (shift-found .place) (i * e)) (entry-of s (shift-found .place))
+      ∙ ap (λ (e : ℕ). shifted s (shift-found .place) (i * e)) (handle-entry s (shift-found .place) (handleOf s (shift-found .place)) refl)
 
   shift-within : i * entrySize s (shift-found .place) ≤ touchedAs s (shift-found .place) .len
   shift-within =
       let p = shift-found .place in
-      rw (← entry-of s p, ← seen-touched s p) (upTo-true (handleOf s p .entry) i (seenBy s 16 p .len) (shift-found .goes .within))
+      rw (← handle-entry s p (handleOf s p) refl, ← seen-touched s p) (upTo-true (handleOf s p .entry) i (seenBy s 16 p .len) (shift-found .goes .within))
 
   pub shift-becomes : Becomes s (shiftCall d s k h i .session) (shift-found .place) (ringOf s (shift-found .place)) (ringBytes s (shift-found .place))
       (shiftedRow s (shift-found .place) (i * entrySize s (shift-found .place)))

@@ -7,6 +7,7 @@ use Prim.Native.Nat.{ℕ, _<_}
 use native.Mathlib.Omega.{arith}
 use Rattle.octets.specs.Cases.{decide}
 use Rattle.octets.specs.declared.Found.the-variants.{At}
+use Rattle.layout.specs.NamesLaws.{name-low}
 use Rattle.layout.specs.Session.{namesAt, handleNumber}
 use Rattle.session.specs.declared.head.Head.{Head}
 use Rattle.session.specs.declared.tape_rows.Staged.{Staged}
@@ -22,7 +23,6 @@ use Rattle.joins.specs.Caches.{AsBefore}
 use Rattle.lives.specs.Life.{Writer, idle, appending, cutting, Store, After, Done, then}
 use Rattle.seen.specs.Seen.{placeOf, writerAs, writerIn, touchedIn, filesFor, SeenOpen, Seen, Handled}
 use Rattle.seen.specs.Orderly.{Orderly}
-use Rattle.seen.specs.Places.{found-low}
 use Rattle.seen.specs.Same.{seen-same}
 use Rattle.seen.specs.Rows.{size-row, list-at}
 use Rattle.seen.specs.Frames.{Frame, frame-place, frame-view, frame-live, frame-readers}
@@ -87,7 +87,7 @@ module _ (d s n : List ℕ) (o : Orderly d s) (p : ℕ) (at : placeOf s n ≡ At
   cut-listed k w =
       let there : viewOf s 17 p .listed ≡ true
       = decide (viewOf s 17 p .listed) (λ e. e)
-      (λ e. absurd (true≢false (sym (o .made-append p (found-low s namesAt n p at) held e) ∙ ap isAppend (cuts-kind s k w)))) in
+      (λ e. absurd (true≢false (sym (o .made-append p (name-low s namesAt n p at) held e) ∙ ap isAppend (cuts-kind s k w)))) in
       sym (ap (λ (v : View). v .listed) (sym (ap (λ (b : Bool). cond b (viewOf s 17 p) noView) there) ∙ list-at d s n st seen p at)) ∙ there
 
   pub its-base : isOpenAt s 16 ≡ true → st .listed ≡ true → touchedAs s p .base ≡ st .len
@@ -96,7 +96,7 @@ module _ (d s n : List ℕ) (o : Orderly d s) (p : ℕ) (at : placeOf s n ≡ At
       (λ e. ap (λ (r : Staged). r .base) (touched-row s p e) ∙ its-rows .base e listed)
       (λ e.
       sym (ap (λ (r : Staged). r .base) (touched-now s p (stagedOf s p) refl (viewOf s 16 p) refl e))
-      ∙ ap (λ (v : View). v .len) (o .writer-view writer p (found-low s namesAt n p at) ∙ shown-listed (viewOf s 17 p) _ (list-at d s n st seen p at) listed .1))
+      ∙ ap (λ (v : View). v .len) (o .writer-view writer p (name-low s namesAt n p at) ∙ shown-listed (viewOf s 17 p) _ (list-at d s n st seen p at) listed .1))
 
 -- ---- once the staged record is another one
 
@@ -147,7 +147,7 @@ module _ (d s e u n : List ℕ) (p : ℕ) (row : Staged) (h : Held) (c : Touchin
             (record {
               ring = c .ring;
               cache = c .cache;
-              size = size-row s u p (f .handles p (found-low s namesAt n p (c .at))) ∙ seen .opened p (c .at) live .size;
+              size = size-row s u p (f .handles p (name-low s namesAt n p (c .at))) ∙ seen .opened p (c .at) live .size;
               unwritten = ap (λ (x : Staged). x .unwritten) (touched-row u p touched-there ∙ c .staged) ∙ c .unwritten;
               base = λ t listed. ap (λ (x : Staged). x .base) (c .staged) ∙ base listed;
             });
@@ -166,7 +166,7 @@ seen-others d s e u h p f is others n files h′ entry its apart st =
       place = frame-place d s e u f n;
       transactions = f .transactions;
       tape = λ q at.
-          let low = found-low s namesAt n q at in
+          let low = name-low s namesAt n q at in
           let before = others q low (handle-apart s n h h′ entry p q its apart is at) in
           record { view = λ w l. f .views w q l low; handle = f .handles q low; ring = before .ring; cache = before .cache; staged = before .staged };
       files = files;

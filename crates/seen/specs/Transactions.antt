@@ -26,6 +26,12 @@ find-rows s k =
     ∙ first-same (λ t. isOpen (sessionOf s .transaction t .kind) && eqb (sessionOf s .transaction t .number) k) (isNumbered s k) 17 0
     (λ t l h. rw (transaction-at s t (omega arith)))
 
+-- a transaction of the number is open
+pub record HasPlace (s : List ℕ) (k : ℕ) : Type 0 where
+  pub place : ℕ
+  pub found : findTransaction s k ≡ At place
+
+-- and it stands in place t
 pub record OpenAs (s : List ℕ) (k t : ℕ) : Type 0 where
   pub low : t < 17
   pub opened : isOpenAt s t ≡ true

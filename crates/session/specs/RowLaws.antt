@@ -1,5 +1,5 @@
--- Laws of the rows of the session's area: a row that was put is read back, a put stays inside its row, and a step elsewhere leaves a row as it was.
--- Assumes nothing.
+-- Laws of the rows of the session's area: a handle's numbers are its row's, a row that was put is read back, a put stays inside its row, and a step
+-- elsewhere leaves a row as it was. Assumes nothing.
 use mathlib.Core.Path.{_≡_, refl, sym, ap, _∙_}
 use mathlib.Core.Bool.{Bool, true, false}
 use mathlib.Core.List.{List}
@@ -10,7 +10,7 @@ use Rattle.octets.specs.Bytes.{put, length-put, length-part, part-put, part-put
 use Rattle.octets.specs.Number.{numAt, numAt-drop, numAt-take}
 use Rattle.octets.specs.Only.{OnlyIn, only-put, only-wider, part-only}
 use Rattle.octets.specs.Words.{only-putWords, word-at, word-only}
-use Rattle.layout.specs.Session.{headAt, viewsAt, viewAt, transactionAt, kindWord, tapeAt, trackingAt, ringAt}
+use Rattle.layout.specs.Session.{headAt, viewsAt, viewAt, transactionAt, kindWord, tapeAt, handleNumber, entrySize, fileSize, trackingAt, ringAt}
 use Rattle.metadata.specs.declared.choice.Side.{Side}
 use Rattle.metadata.specs.declared.choice.Side.the-variants.{Left, Right}
 use Rattle.ring_buffer.specs.Ring.{around}
@@ -180,6 +180,20 @@ pub transaction-only : (low high : ℕ) (s u : List ℕ) → OnlyIn low high s u
 transaction-only low high s u only t clear = transaction-words s u t (word-only low high s u only (transactionAt t) 24 clear)
 
 -- ---- a tape's row: its handle
+
+-- the numbers of a handle that was read are the row's
+module _ (s : List ℕ) (p : ℕ) (h : Handle) (read : h ≡ handleOf s p) where
+  pub handle-numbered : h .number ≡ handleNumber s p
+  unfolding handleOf
+  handle-numbered = ap (λ (x : Handle). x .number) read
+
+  pub handle-entry : h .entry ≡ entrySize s p
+  unfolding handleOf
+  handle-entry = ap (λ (x : Handle). x .entry) read
+
+  pub handle-size : h .«file_size» ≡ fileSize s p
+  unfolding handleOf
+  handle-size = ap (λ (x : Handle). x .«file_size») read
 
 pub only-putHandle : (s : List ℕ) (p : ℕ) (h : Handle) → OnlyIn (tapeAt p) (tapeAt p + 24) s (putHandle s p h)
 unfolding putHandle

@@ -162,9 +162,9 @@ module _ (d s : List ℕ) (t h i : ℕ) where
 -- ---- the layout rule is kept, whatever the numbers are
 
 -- the bytes that the files lack are held: a tape that is touched now has none
-pub touched-held : (s : List ℕ) (p : ℕ) → Begun s → p < 8 → handleNumber s p ≢ 0 → touchedAs s p .unwritten ≤ ringLen s p
+pub unwritten-held : (s : List ℕ) (p : ℕ) → Begun s → p < 8 → handleNumber s p ≢ 0 → touchedAs s p .unwritten ≤ ringLen s p
 unfolding touchedAs stagedOf
-touched-held s p b low held =
+unwritten-held s p b low held =
     decide (stagedOf s p .touched)
     (λ e. rw e (b .tapes p low held .ring .pending))
     (λ e. rw e (omega arith))
@@ -172,7 +172,7 @@ touched-held s p b low held =
 module _ (s : List ℕ) (begun : Begun s) (p : ℕ) (low : p < 8) where
   pub begun-shifted : (start : ℕ) → Begun (shifted s p start)
   unfolding shifted
-  begun-shifted start = begun-putStaged s begun p low _ (touched-held s p begun low)
+  begun-shifted start = begun-putStaged s begun p low _ (unwritten-held s p begun low)
 
   pub begun-cutTo : (len : ℕ) → Begun (cutTo s p len)
   unfolding cutTo

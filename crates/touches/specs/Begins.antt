@@ -30,8 +30,8 @@ use Rattle.beginning.specs.Disks.{formatCall}
 use Rattle.beginning.specs.Transactions.{begunAt}
 use Rattle.beginning.specs.Calls.{appendCall, truncateCall, readerCall}
 use Rattle.beginning.specs.Sessions.{theRecord, storeCall}
-use Rattle.beginning.specs.Ways.{usable-begun, both-session, free-low}
-use Rattle.beginning.specs.Laws.{MayBegin, nextHead, append-cases, truncate-cases, reader-cases}
+use Rattle.beginning.specs.Ways.{both-session, free-low}
+use Rattle.beginning.specs.Laws.{nextHead, append-cases, truncate-cases, reader-cases, may-long}
 use Rattle.beginning.specs.StoreLaws.{store-cases, list-good}
 use Rattle.touches.specs.Parts.{Part, Inside, Outside, Touches, Stays, mark, head, names, viewOf, transactionOf, tapes, tracking, rings, belowRings, tables, found, stays, touches-none, touches-then, touches-only, one-touches}
 
@@ -57,24 +57,21 @@ touches-begunAt s t k long low =
     (touches-only (begunParts t) _ _ b _ third (λ i o l. o .0 l))
 
 module _ (d s : List ℕ) where
-  long : {t : ℕ} → MayBegin d s t → sessionBytes ≤ length s
-  long may = usable-begun d s (may .areas) .long
-
   pub append-touches : Touches (begunParts 16) s (appendCall d s .session)
   append-touches =
       append-cases (λ o. Touches (begunParts 16) s (o .session)) d s (λ why. touches-none (begunParts 16) s)
-      (λ may alone. touches-begunAt s 16 Append (long may) (omega arith))
+      (λ may alone. touches-begunAt s 16 Append (may-long d s may) (omega arith))
 
   pub truncate-touches : Touches (begunParts 16) s (truncateCall d s .session)
   truncate-touches =
       truncate-cases (λ o. Touches (begunParts 16) s (o .session)) d s (λ why. touches-none (begunParts 16) s)
-      (λ may. touches-begunAt s 16 Truncate (long may) (omega arith))
+      (λ may. touches-begunAt s 16 Truncate (may-long d s may) (omega arith))
 
   -- the first free place, if there is one
   pub reader-touches : Touches (found begunParts (freeReader s)) s (readerCall d s .session)
   reader-touches =
       reader-cases (λ o. Touches (found begunParts (freeReader s)) s (o .session)) d s (λ why. touches-none (found begunParts (freeReader s)) s)
-      (λ t may low e. rw e (touches-begunAt s t Reader (long may) (omega arith)))
+      (λ t may low e. rw e (touches-begunAt s t Reader (may-long d s may) (omega arith)))
 
 -- and what it leaves: names, tapes, tracking, caches, and every other transaction with its view
 pub record BeginLeaves (t : ℕ) (s u : List ℕ) : Type 0 where

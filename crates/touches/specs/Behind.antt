@@ -20,7 +20,7 @@ use Rattle.staging.specs.Cutting.{cutCall, dropCall}
 use Rattle.staging.specs.Ways.{handle-found, transaction-low}
 use Rattle.entries.specs.Popping.{popCall}
 use Rattle.appending.specs.Calls.{putCall}
-use Rattle.opening.specs.Calls.{placeFor, openCall}
+use Rattle.opening.specs.Calls.{placeFor, openCall, placeOf}
 use Rattle.opening.specs.CallWays.{place-low}
 use Rattle.ending.specs.Dropping.{dropTransactionCall}
 use Rattle.ending.specs.Committing.{commitCall}
@@ -28,7 +28,7 @@ use Rattle.touches.specs.Parts.{Part, bytes, Inside, Outside, Touches, S
 use Rattle.touches.specs.Begins.{begunParts, append-touches, truncate-touches, reader-touches, store-touches, format-touches-session, format-touches-disk}
 use Rattle.touches.specs.Stages.{stagedParts, shift-touches, cut-touches, drop-touches, pop-touches}
 use Rattle.touches.specs.Puts.{putParts, put-touches-session, put-touches-disk}
-use Rattle.touches.specs.Opens.{openParts, readiedParts, tapeNamed, clear-of, open-touches-session, open-touches-disk}
+use Rattle.touches.specs.Opens.{openParts, readiedParts, clear-of, open-touches-session, open-touches-disk}
 use Rattle.touches.specs.Drops.{dropParts, anyParts, outside-any, drop-transaction-touches}
 use Rattle.touches.specs.CommitSteps.{truncateParts, appendDiskParts}
 use Rattle.touches.specs.Commits.{outside-truncate, outside-append, commit-touches-session, commit-touches-disk}
@@ -81,8 +81,8 @@ module _ (d s : List ℕ) where
 
   pub open-behind : (t : ℕ) (wanted : List ℕ) (entry fs cache start : ℕ) → Stays (behindSession s) s (openCall d s t wanted entry fs cache start .session)
   open-behind t wanted entry fs cache start =
-      stays-found openParts (placeFor s (tapeNamed s wanted)) (behindSession s) s _ (open-touches-session d s t wanted entry fs cache start)
-      (λ p e i k. let small = place-low s (tapeNamed s wanted) p (λ q f. name-low s namesAt wanted q f) e in search arith)
+      stays-found openParts (placeFor s (placeOf s wanted)) (behindSession s) s _ (open-touches-session d s t wanted entry fs cache start)
+      (λ p e i k. let small = place-low s (placeOf s wanted) p (λ q f. name-low s namesAt wanted q f) e in search arith)
 
   pub commit-behind : (t : ℕ) → Stays (behindSession s) s (commitCall d s t .session)
   commit-behind t i h = commit-touches-session d s t .same i (outside-truncate s t i (clear i h))

@@ -20,7 +20,7 @@ use Rattle.layout.specs.NamesLaws.{only-putName, name-low}
 use Rattle.layout.specs.Session.{namesAt, tapeAt}
 use Rattle.disk.specs.Steps.{addAt, addDirectory, emptySlot, emptyDirectory}
 use Rattle.disk.specs.StepLaws.{only-emptySlot, directory-low}
-use Rattle.session.specs.Rows.{headOf, transactionOf, putHandle, fillRing, putStaged}
+use Rattle.session.specs.Rows.{transactionOf, putHandle, fillRing, putStaged}
 use Rattle.session.specs.RowLaws.{only-putHead, only-putHandle, only-putRing, only-putStaged, only-fillRing}
 use Rattle.rolling_tape.specs.Removal.{Areas, areas}
 use Rattle.rolling_tape.specs.RemovalLaws.{only-entries}
@@ -28,22 +28,14 @@ use Rattle.cached_tape.specs.Filling.{filledWith}
 use Rattle.beginning.specs.Transactions.{usable}
 use Rattle.beginning.specs.Ways.{usable-disk}
 use Rattle.opening.specs.declared.shape.Opening.{Opening}
-use Rattle.opening.specs.Shape.{openingOf}
 use Rattle.opening.specs.ShapeLaws.{Shaped}
 use Rattle.opening.specs.Directory.{takenFiles, emptied, added, readied}
 use Rattle.opening.specs.DirectoryLaws.{only-readied-session}
-use Rattle.opening.specs.Calls.{cachedFrom, cachedBytes, rowed, openWith, openNow, viewFound, placeFor, openCall}
+use Rattle.opening.specs.Calls.{cachedFrom, cachedBytes, rowStaged, rowHandle, rowed, openWith, openNow, placeFor, openCall, placeOf}
 use Rattle.opening.specs.PlacingLaws.{cached-most, length-cached}
 use Rattle.opening.specs.CallWays.{place-low, open-unusable}
 use Rattle.opening.specs.Laws.{open-cases, opens-shaped}
 use Rattle.touches.specs.Parts.{Part, Inside, Outside, Touches, Stays, mark, head, nameOf, views, transactions, tapeOf, tracking, ringOf, fields, directories, sides, fileTable, slotsOf, found, stays, stays-found, touches-none, touches-then, touches-only, one-touches}
-
--- the tape that the session has under the name, and what is opened
-abbrev pub tapeNamed : List ℕ → List ℕ → Found
-tapeNamed s wanted = findName s namesAt wanted
-
-abbrev pub opened : List ℕ → List ℕ → ℕ → ℕ → ℕ → ℕ → Opening
-opened s wanted entry fs cache start = openingOf (viewFound s (tapeNamed s wanted)) entry fs cache start
 
 -- ---- of the session
 
@@ -67,8 +59,8 @@ touches-rowed : (s : List ℕ) (p : ℕ) (o : Opening) (bs : List ℕ) → lengt
 unfolding rowed
 touches-rowed s p o bs fit =
     let a = filledWith s p (o .cache) (cachedFrom o) bs in
-    let b = putStaged a p (record { touched = true; base = o .len; len = o .len; start = o .start; unwritten = 0 }) in
-    let c = putHandle b p (record { number = headOf s .«last_handle» + 1; entry = o .entry; «file_size» = o .«file_size» }) in
+    let b = putStaged a p (rowStaged o) in
+    let c = putHandle b p (rowHandle s o) in
     touches-then (openParts p) s a _ (touches-filled s p (o .cache) (cachedFrom o) bs fit)
     (touches-then (openParts p) a b _ (touches-row a p _ _ b (omega arith) (omega arith) (only-putStaged a p _))
     (touches-then (openParts p) b c _ (touches-row b p _ _ c (omega arith) (omega arith) (only-putHandle b p _))
@@ -140,10 +132,10 @@ module _ (d s wanted : List ℕ) (o : Opening) (began : ℕ) (small : length wan
 
 module _ (d s : List ℕ) (t : ℕ) (wanted : List ℕ) (entry fs cache start : ℕ) where
   -- the place that the name has, else the first free one
-  pub open-touches-session : Touches (found openParts (placeFor s (tapeNamed s wanted))) s (openCall d s t wanted entry fs cache start .session)
+  pub open-touches-session : Touches (found openParts (placeFor s (placeOf s wanted))) s (openCall d s t wanted entry fs cache start .session)
   open-touches-session =
-      open-cases d s t wanted entry fs cache start (λ (x : Outcome). Touches (found openParts (placeFor s (tapeNamed s wanted))) s (x .session))
-      (λ why. touches-none (found openParts (placeFor s (tapeNamed s wanted))) s)
+      open-cases d s t wanted entry fs cache start (λ (x : Outcome). Touches (found openParts (placeFor s (placeOf s wanted))) s (x .session))
+      (λ why. touches-none (found openParts (placeFor s (placeOf s wanted))) s)
       (λ ok w p g. rw (g .place) (touches-openNow d s wanted _ (findName d D.directories wanted) p ok (opens-shaped d s t wanted entry fs cache start p g)))
 
   pub open-touches-disk : Touches (readiedParts d (findName d D.directories wanted)) d (openCall d s t wanted entry fs cache start .disk)
@@ -188,10 +180,10 @@ clear-of d (At p) i a b = (a, tt)
 clear-of d Nothing i a b = (a, (b, tt))
 
 module _ (d s : List ℕ) (t : ℕ) (wanted : List ℕ) (entry fs cache start : ℕ) where
-  pub open-leaves-session : OpenLeaves (placeFor s (tapeNamed s wanted)) s (openCall d s t wanted entry fs cache start .session)
+  pub open-leaves-session : OpenLeaves (placeFor s (placeOf s wanted)) s (openCall d s t wanted entry fs cache start .session)
   open-leaves-session =
-      open-leaves (placeFor s (tapeNamed s wanted)) s _
-      (λ p e. place-low s (tapeNamed s wanted) p (λ q f. name-low s namesAt wanted q f) e)
+      open-leaves (placeFor s (placeOf s wanted)) s _
+      (λ p e. place-low s (placeOf s wanted) p (λ q f. name-low s namesAt wanted q f) e)
       (open-touches-session d s t wanted entry fs cache start)
 
   pub open-leaves-disk : OpenLeavesDisk d (openCall d s t wanted entry fs cache start .disk)

@@ -53,7 +53,7 @@ module _ (d s : List ℕ) (t h i : ℕ) where
 
 pub pop-touches : (d s : List ℕ) (t h : ℕ) (out : List ℕ) → Touches (found stagedParts (findHandle s h)) s (popCall d s t h out .session)
 pop-touches d s t h out =
-    pop-cases (λ (o : Popping). Touches (found stagedParts (findHandle s h)) s (o .session)) d s t h out (λ a. touches-none (found stagedParts (findHandle s h)) s)
+    pop-cases (λ (o : Popping). Touches (found stagedParts (findHandle s h)) s (o .session)) d s t h out (λ a none. touches-none (found stagedParts (findHandle s h)) s)
     (λ p g. rw (g .found) (touches-cutTo s p _))
 
 -- ---- what is left

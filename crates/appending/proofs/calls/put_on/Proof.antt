@@ -7,7 +7,7 @@ use Rattle.layout.specs.Session.{ringLen}
 use Rattle.staging.specs.Ways.{entry-some}
 use Rattle.appending.specs.CallWays.{put-full, put-goes}
 use borrow.Author.Needs.{needs}
-use Rattle.staging.specs.Laws.{touched-held}
+use Rattle.staging.specs.Laws.{unwritten-held}
 use Rattle.appending.proofs.calls.put_on.Statement.{statement}
 use Rattle.appending.proofs.calls.put_on.Tie as tie
 
@@ -38,7 +38,7 @@ put-bytes-requires c κs =
     let touched-as = c .before .before .before .before .touched-as in
     let args = c .before .before .before .before .before .before .before .before .before .before .before .before .before .args in
     let pre = c .before .before .before .before .before .before .before .before .before .before .before .before .before .pre in
-    let held = touched-held (args .session .now) (args .tape) (pre .0 .0 .1) (pre .0 .1 .1) (pre .1 .0) in
+    let held = unwritten-held (args .session .now) (args .tape) (pre .0 .0 .1) (pre .0 .1 .1) (pre .1 .0) in
     let pending : touched-as .result .unwritten ≤ ringLen (args .session .now) (args .tape) = rw (touched-as .ensures) held in
     let fits : touched-as .result .len + length (args .src .now) < 2 ^ 64 = rw (touched-as .ensures) (pre .1 .1) in
     (pre .0, (pre .1 .0, (pending, fits)))

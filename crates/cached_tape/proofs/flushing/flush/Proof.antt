@@ -8,12 +8,12 @@ use borrow.Author.Needs.{needs}
 use Rattle.octets.specs.Only.{OnlyIn}
 use Rattle.layout.specs.Disk.{Sound}
 use Rattle.layout.specs.Session.{Begun, handleNumber, fileSize, ringLen}
-use Rattle.session.specs.declared.tape_rows.Handle.{Handle}
 use Rattle.session.specs.declared.tape_rows.Staged.{Staged}
+use Rattle.session.specs.RowLaws.{handle-size}
 use Rattle.rolling_tape.specs.Removal.{Areas, areas}
 use Rattle.rolling_tape.specs.Writing.{writeRun}
 use Rattle.cached_tape.specs.Flushing.{coverRun, unwrittenFrom, unwrittenBytes}
-use Rattle.cached_tape.specs.FlushLaws.{begun-kept, number-kept, ringLen-kept, fileSize-handle, only-coverRun, sound-coverRun, flushed-after}
+use Rattle.cached_tape.specs.FlushLaws.{begun-kept, number-kept, ringLen-kept, only-coverRun, sound-coverRun, flushed-after}
 use Rattle.cached_tape.proofs.flushing.flush.Statement.{statement}
 use Rattle.cached_tape.proofs.flushing.flush.Tie as tie
 
@@ -63,7 +63,7 @@ cover-run-requires c κs =
     let pre = c .before .before .before .before .before .before .before .pre in
     let s = args .session .now in
     let p = args .tape in
-    let size : get-handle .result .«file_size» ≡ fileSize s p = ap (λ (x : Handle). x .«file_size») (get-handle .ensures) ∙ fileSize-handle s p in
+    let size : get-handle .result .«file_size» ≡ fileSize s p = handle-size s p (get-handle .result) (get-handle .ensures) in
     let row-fits = pre .0 .0 .1 .tapes p (pre .0 .1 .1) (pre .1 .0) in
     let off : above .result ≡ unwrittenFrom (args .row) = above .ensures in
     let end = end-fits s p (args .row) (pre .0 .0 .1) (pre .0 .1 .1) (pre .1 .0) (pre .1 .1) (omega arith) in
@@ -82,7 +82,7 @@ write-last-requires c κs =
     let a = areas (args .disk .now) s in
     let t = cover-run .last .0 in
     let u = cover-run .last .1 .0 in
-    let size : get-handle .result .«file_size» ≡ fileSize s p = ap (λ (x : Handle). x .«file_size») (get-handle .ensures) ∙ fileSize-handle s p in
+    let size : get-handle .result .«file_size» ≡ fileSize s p = handle-size s p (get-handle .result) (get-handle .ensures) in
     let off : above .result ≡ unwrittenFrom (args .row) = above .ensures in
     let e : coverRun a (args .place) (get-handle .result .«file_size») (above .result) (args .row .unwritten) ≡ areas t u = cover-run .ensures in
     let r = ready a (args .place) p (args .row) (pre .0 .0 .0) (pre .0 .0 .1) (pre .0 .1 .0) (pre .0 .1 .1) (pre .1 .0) (pre .1 .1)
@@ -109,7 +109,7 @@ returns c =
     let a = areas (args .disk .now) s in
     let t = cover-run .last .0 in
     let u = cover-run .last .1 .0 in
-    let size : get-handle .result .«file_size» ≡ fileSize s p = ap (λ (x : Handle). x .«file_size») (get-handle .ensures) ∙ fileSize-handle s p in
+    let size : get-handle .result .«file_size» ≡ fileSize s p = handle-size s p (get-handle .result) (get-handle .ensures) in
     let off : above .result ≡ unwrittenFrom (args .row) = above .ensures in
     let e : coverRun a (args .place) (get-handle .result .«file_size») (above .result) (args .row .unwritten) ≡ areas t u = cover-run .ensures in
     let w : write-last .last .0 ≡ writeRun t (args .place) (fileSize u p) (above .result) (unwrittenBytes u p (args .row .unwritten)) = write-last .ensures in

@@ -13,9 +13,10 @@ use Rattle.ring_buffer.specs.declared.bookkeeping.RingBuffer.{RingBuffer}
 use Rattle.session.specs.KeepLaws.{ring-sound}
 use Rattle.session.specs.Rows.{handleOf, ringOf, ringBytes}
 use Rattle.session.specs.declared.tape_rows.Handle.{Handle}
+use Rattle.session.specs.RowLaws.{handle-size}
 use Rattle.rolling_tape.specs.Writing.{writeRun}
 use Rattle.rolling_tape.specs.WritingLaws.{sound-writeRun}
-use Rattle.cached_tape.specs.FlushLaws.{fileSize-handle, pending-ring, sound-lastRing, length-parts, write-parts}
+use Rattle.cached_tape.specs.FlushLaws.{pending-ring, sound-lastRing, length-parts, write-parts}
 use Rattle.cached_tape.proofs.flushing.write_last.Statement.{statement}
 use Rattle.cached_tape.proofs.flushing.write_last.Tie as tie
 
@@ -34,7 +35,7 @@ module _ (s : List ℕ) (p n : ℕ) (begun : Begun s) (tape : p < 8) (held : han
       → Got s p n handle last bytes
   got handle ring last bytes h r l b =
       let row = begun .tapes p tape held in
-      let size : handle .«file_size» ≡ fileSize s p = ap (λ (x : Handle). x .«file_size») h ∙ fileSize-handle s p in
+      let size : handle .«file_size» ≡ fileSize s p = handle-size s p handle h in
       let e : last ≡ lastHeld (ringOf s p) n = l ∙ ap (λ (x : RingBuffer). lastHeld x n) r in
       record {
         size = size;

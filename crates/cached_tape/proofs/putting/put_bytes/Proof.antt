@@ -13,7 +13,7 @@ use Rattle.cached_tape.specs.Putting.{sentTo, cachedIn}
 use Rattle.cached_tape.specs.FlushLaws.{begun-kept, number-kept}
 use Rattle.cached_tape.specs.PutLaws.{kept-sent, put-as}
 use borrow.Author.Needs.{needs}
-use Rattle.rolling_tape.specs.Kept.{Kept}
+use Rattle.rolling_tape.specs.Kept.{KeptSound}
 use Rattle.cached_tape.proofs.putting.put_bytes.Statement.{statement}
 use Rattle.cached_tape.proofs.putting.put_bytes.Tie as tie
 
@@ -45,7 +45,7 @@ cache-requires c κs =
     let d₁ = send .last .0 in
     let s₁ = send .last .1 .0 in
     let e : sentTo (areas d s) (args .place) p (args .row) (args .src .now) ≡ areas d₁ s₁ = send .ensures in
-    let kept : Kept (areas d s) (areas d₁ s₁) = rw e at (kept-sent (areas d s) (args .place) p (args .row) (pre .0 .0 .0) (pre .0 .0 .1) (pre .0 .1 .0) (pre .0 .1 .1) (pre .1 .0) (pre .1 .1 .0) (args .src .now) (pre .1 .1 .1)) in
+    let kept : KeptSound (areas d s) (areas d₁ s₁) = rw e at (kept-sent (areas d s) (args .place) p (args .row) (pre .0 .0 .0) (pre .0 .0 .1) (pre .0 .1 .0) (pre .0 .1 .1) (pre .1 .0) (pre .1 .1 .0) (args .src .now) (pre .1 .1 .1)) in
     let held = pre .1 .0 in
     (begun-kept s s₁ (kept .only) (pre .0 .0 .1), (pre .0 .1 .1, rw (number-kept s s₁ (kept .only) p (pre .0 .1 .1)) held))
 

@@ -5,13 +5,13 @@ use native.Mathlib.Omega.{arith}
 use Rattle.layout.specs.Session.{fileSize}
 use Rattle.ring_buffer.specs.declared.bookkeeping.RingBuffer.{RingBuffer}
 use Rattle.session.specs.Rows.{ringOf}
+use Rattle.session.specs.RowLaws.{handle-size}
 use Rattle.rolling_tape.specs.Removal.{Areas, areas}
 use Rattle.cached_tape.specs.Flushing.{wrote, flushed}
 use Rattle.cached_tape.specs.FlushLaws.{fileSize-kept}
 use Rattle.cached_tape.specs.PutLaws.{kept-flushed, sent-fills, sent-out, sent-none}
-use Rattle.cached_tape.specs.ServeLaws.{handle-size}
 use borrow.Author.Needs.{needs}
-use Rattle.rolling_tape.specs.Kept.{Kept}
+use Rattle.rolling_tape.specs.Kept.{KeptSound}
 use Rattle.cached_tape.proofs.putting.send.Statement.{statement}
 use Rattle.cached_tape.proofs.putting.send.Tie as tie
 
@@ -36,7 +36,7 @@ write-through-requires c κs =
     let d₁ = flush .last .0 in
     let s₁ = flush .last .1 .0 in
     let e : flushed (areas d s) (args .place) p (args .row) ≡ areas d₁ s₁ = flush .ensures in
-    let kept : Kept (areas d s) (areas d₁ s₁) = rw e at (kept-flushed (areas d s) (args .place) p (args .row) (pre .0 .0 .0) (pre .0 .0 .1) (pre .0 .1 .0) (pre .0 .1 .1) (pre .1 .0) (pre .1 .1 .0) (omega arith)) in
+    let kept : KeptSound (areas d s) (areas d₁ s₁) = rw e at (kept-flushed (areas d s) (args .place) p (args .row) (pre .0 .0 .0) (pre .0 .0 .1) (pre .0 .1 .0) (pre .0 .1 .1) (pre .1 .0) (pre .1 .1 .0) (omega arith)) in
     let size : get-handle .result .«file_size» ≡ fileSize s p = handle-size s₁ p (get-handle .result) (get-handle .ensures) ∙ fileSize-kept s s₁ (kept .only) p (pre .0 .1 .1) in
     let fits = pre .0 .0 .1 .tapes p (pre .0 .1 .1) (pre .1 .0) in
     ((kept .sound, rw (kept .only .long) (pre .0 .0 .1 .long)), (pre .0 .1 .0, ((omega arith, omega arith), pre .1 .1 .1)))
@@ -62,7 +62,7 @@ returns c =
     let d₁ = flush .last .0 in
     let s₁ = flush .last .1 .0 in
     let e : flushed (areas d s) (args .place) p (args .row) ≡ areas d₁ s₁ = flush .ensures in
-    let kept : Kept (areas d s) (areas d₁ s₁) = rw e at (kept-flushed (areas d s) (args .place) p (args .row) (pre .0 .0 .0) (pre .0 .0 .1) (pre .0 .1 .0) (pre .0 .1 .1) (pre .1 .0) (pre .1 .1 .0) (omega arith)) in
+    let kept : KeptSound (areas d s) (areas d₁ s₁) = rw e at (kept-flushed (areas d s) (args .place) p (args .row) (pre .0 .0 .0) (pre .0 .0 .1) (pre .0 .1 .0) (pre .0 .1 .1) (pre .1 .0) (pre .1 .1 .0) (omega arith)) in
     let size : get-handle .result .«file_size» ≡ fileSize s p = handle-size s₁ p (get-handle .result) (get-handle .ensures) ∙ fileSize-kept s s₁ (kept .only) p (pre .0 .1 .1) in
     let same : get-ring .result .capacity ≡ ringOf s p .capacity = ap (λ (r : RingBuffer). r .capacity) (get-ring .ensures) in
     sent-fills (areas d s) (args .place) p (args .row) (args .src .now) (omega arith)

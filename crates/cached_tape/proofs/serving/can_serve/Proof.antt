@@ -3,8 +3,8 @@ use mathlib.Core.Path.{_≡_, _∙_}
 use native.Mathlib.Omega.{arith}
 use Rattle.layout.specs.Session.{fileSize}
 use Rattle.cached_tape.specs.Serving.{canServe}
-use Rattle.cached_tape.specs.ServeLaws.{handle-size}
 use borrow.Author.Needs.{needs}
+use Rattle.session.specs.RowLaws.{handle-size}
 use Rattle.cached_tape.proofs.serving.can_serve.Statement.{statement}
 use Rattle.cached_tape.proofs.serving.can_serve.Tie as tie
 

@@ -9,12 +9,12 @@ use Rattle.layout.specs.Names.{name}
 use Rattle.layout.specs.Session.{namesAt, fileSize}
 use Rattle.ring_buffer.specs.Ring.{nths}
 use Rattle.session.specs.Rows.{ringOf, ringBytes}
-use Rattle.session.specs.RowLaws.{length-ringBytes}
+use Rattle.session.specs.RowLaws.{length-ringBytes, handle-size}
 use Rattle.session.specs.KeepLaws.{ring-sound}
 use Rattle.rolling_tape.specs.Reading.{readRun}
 use Rattle.rolling_tape.specs.ReadingLaws.{length-readRun}
 use Rattle.cached_tape.specs.Serving.{belowCache, served}
-use Rattle.cached_tape.specs.ServeLaws.{serve-lies, handle-size, two-parts}
+use Rattle.cached_tape.specs.ServeLaws.{serve-lies, two-parts}
 use borrow.Author.Needs.{needs}
 use Rattle.cached_tape.proofs.serving.serve.Statement.{statement}
 use Rattle.cached_tape.proofs.serving.serve.Tie as tie

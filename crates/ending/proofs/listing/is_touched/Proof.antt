@@ -1,5 +1,5 @@
 -- `is_touched` is `isTouched`: a tape that is not open is not touched, of an open one the staged record says it. Assumes nothing.
-use mathlib.Core.Path.{_≡_, sym, ap, _∙_}
+use mathlib.Core.Path.{_≡_, sym, _∙_}
 use mathlib.Core.Logic.{_≢_}
 use mathlib.Core.Bool.{false}
 use mathlib.Core.List.{List}
@@ -10,22 +10,19 @@ use Rattle.layout.specs.Session.{handleNumber}
 use Rattle.session.specs.Rows.{handleOf, stagedOf}
 use Rattle.session.specs.declared.tape_rows.Handle.{Handle}
 use Rattle.session.specs.declared.tape_rows.Staged.{Staged}
+use Rattle.session.specs.RowLaws.{handle-numbered}
 use Rattle.ending.specs.Listing.{isTouched}
 use Rattle.ending.proofs.listing.is_touched.Statement.{statement}
 use Rattle.ending.proofs.listing.is_touched.Tie as tie
 
 module _ (s : List ℕ) (p : ℕ) (h : Handle) (read : h ≡ handleOf s p) where
-  number : h .number ≡ handleNumber s p
-  unfolding handleOf
-  number = ap (λ (x : Handle). x .number) read
-
   shut : h .number ≡ 0 → false ≡ isTouched s p
   unfolding isTouched
-  shut e = rw (eq-eqb (handleNumber s p) 0 (sym number ∙ e))
+  shut e = rw (eq-eqb (handleNumber s p) 0 (sym (handle-numbered s p h read) ∙ e))
 
   held : h .number ≢ 0 → (t : Staged) → t ≡ stagedOf s p → t .touched ≡ isTouched s p
   unfolding isTouched
-  held d t e = rw (ne-eqb (handleNumber s p) 0 (λ q. d (number ∙ q)), e)
+  held d t e = rw (ne-eqb (handleNumber s p) 0 (λ q. d (handle-numbered s p h read ∙ q)), e)
 
 get-handle-requires : tie.Need-get-handle-requires
 get-handle-requires c κs = search needs

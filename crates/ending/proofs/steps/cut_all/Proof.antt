@@ -58,7 +58,7 @@ loop-again c =
     let e : cut-tape .last .1 .0 ≡ cutTape d (loop .i) (loop .session) = cut-tape .ensures in
     record {
       long = cut-tape .kept .1 .0 ∙ v .long;
-      begun = rw e (begun-cutTape d few (loop .i) (loop .session) (loop-test .taken) (v .begun) (v .bytes));
+      begun = rw e (begun-cutTape d few (loop .i) (loop .session) (loop-test .taken) (v .begun));
       bytes = rw e (bytes-cutTape d few (loop .i) (loop .session) (loop-test .taken) (v .begun .long) (v .bytes));
       within = omega arith;
       rest = rw e (sym (sweep-turn (cutTape d) 8 (loop .i) (loop .session) (loop-test .taken)) ∙ v .rest);

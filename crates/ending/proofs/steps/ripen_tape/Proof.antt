@@ -1,5 +1,5 @@
 -- `ripen_tape` leaves `ripenTape`: of a tape that was touched and has its directory, marks first, and the removal on what they leave. Assumes nothing.
-use mathlib.Core.Path.{_≡_, sym, ap, _∙_}
+use mathlib.Core.Path.{_≡_, sym, _∙_}
 use mathlib.Core.Bool.{true, false}
 use mathlib.Core.List.{List}
 use Prim.Native.Nat.{ℕ}
@@ -12,12 +12,11 @@ use Rattle.disk.specs.StepLaws.{directory-low}
 use Rattle.components.specs.Pieces.{fileOf}
 use Rattle.layout.specs.Session.{namesAt, fileSize}
 use Rattle.session.specs.Rows.{viewOf}
-use Rattle.session.specs.declared.tape_rows.Handle.{Handle}
 use Rattle.session.specs.declared.views.View.{View}
+use Rattle.session.specs.RowLaws.{handle-size}
 use Rattle.rolling_tape.specs.Removal.{areas, removeRipe}
 use Rattle.rolling_tape.specs.Tracking.{retracked}
 use Rattle.rolling_tape.specs.declared.tracking.Change.the-variants.{MarkBelow}
-use Rattle.cached_tape.specs.FlushLaws.{fileSize-handle}
 use Rattle.ending.specs.Listing.{isTouched}
 use Rattle.ending.specs.Steps.{ripenedAt, ripenTape}
 use Rattle.ending.specs.StepLaws.{touched-size}
@@ -86,7 +85,7 @@ file-of-requires c κs =
     let pre = c .before .before .before .before .before .before .before .before .before .before .before .before .before .before .before .before .pre in
     let s = args .session .now in
     let p = args .tape in
-    let size : get-handle .result .«file_size» ≡ fileSize s p = ap (λ (x : Handle). x .«file_size») (get-handle .ensures) ∙ fileSize-handle s p in
+    let size : get-handle .result .«file_size» ≡ fileSize s p = handle-size s p (get-handle .result) (get-handle .ensures) in
     let some = touched-size s p (pre .0 .1) (pre .1) (sym (is-touched .ensures) ∙ if1 .taken) in
     omega arith
 
@@ -130,7 +129,7 @@ returns-2 c =
     let args = c .before .before .before .before .before .before .before .before .before .before .before .before .before .before .before .before .before .before .before .before .before .before .before .before .before .before .before .before .before .args in
     let s = args .session .now in
     let p = args .tape in
-    let size : get-handle .result .«file_size» ≡ fileSize s p = ap (λ (x : Handle). x .«file_size») (get-handle .ensures) ∙ fileSize-handle s p in
+    let size : get-handle .result .«file_size» ≡ fileSize s p = handle-size s p (get-handle .result) (get-handle .ensures) in
     there (args .disk .now) s (args .began) (args .oldest) p (sym (is-touched .ensures) ∙ if1 .taken) (tape-name .ensures) (find-directory .ensures) (place .given .0 .0) (place .given .1)
     (get-handle .result .«file_size») (file-of .result) (get-view .result) (retrack .last .1 .0) size (get-view .ensures) (file-of .ensures) (retrack .ensures)
     ∙ remove-ripe .ensures

@@ -10,8 +10,9 @@ use Rattle.answers.specs.declared.OneEntry.{OneEntry}
 use Rattle.answers.specs.declared.OneEntry.the-variants.{Entry}
 use Rattle.layout.specs.Session.{entrySize}
 use Rattle.entries.specs.Reads.{readOn}
-use Rattle.entries.specs.Ways.{handle-entry, pop-unread, pop-read}
+use Rattle.entries.specs.Ways.{pop-unread, pop-read}
 use borrow.Author.Needs.{needs}
+use Rattle.session.specs.RowLaws.{handle-entry}
 use Rattle.entries.proofs.popping.pop_at.Statement.{statement}
 use Rattle.entries.proofs.popping.pop_at.Tie as tie
 

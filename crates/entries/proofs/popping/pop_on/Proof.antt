@@ -5,8 +5,9 @@ use native.Mathlib.Nat.{div-mul-le-self, mul-le-mul-right}
 use native.Mathlib.Omega.{arith}
 use Rattle.layout.specs.Session.{entrySize}
 use Rattle.staging.specs.Ways.{entry-some}
-use Rattle.entries.specs.Ways.{handle-entry, pop-absent, pop-empty, pop-last}
+use Rattle.entries.specs.Ways.{pop-absent, pop-empty, pop-last}
 use borrow.Author.Needs.{needs}
+use Rattle.session.specs.RowLaws.{handle-entry}
 use Rattle.entries.proofs.popping.pop_on.Statement.{statement}
 use Rattle.entries.proofs.popping.pop_on.Tie as tie
 

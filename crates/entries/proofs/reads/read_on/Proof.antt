@@ -8,8 +8,9 @@ use Rattle.components.specs.Bounds.{inBounds}
 use Rattle.components.specs.BoundsLaws.{in-bounds-is}
 use Rattle.layout.specs.Session.{entrySize}
 use Rattle.staging.specs.Ways.{entry-some}
-use Rattle.entries.specs.Ways.{handle-entry, read-absent, read-outside, read-short, read-room}
+use Rattle.entries.specs.Ways.{read-absent, read-outside, read-short, read-room}
 use borrow.Author.Needs.{needs}
+use Rattle.session.specs.RowLaws.{handle-entry}
 use Rattle.entries.proofs.reads.read_on.Statement.{statement}
 use Rattle.entries.proofs.reads.read_on.Tie as tie
 

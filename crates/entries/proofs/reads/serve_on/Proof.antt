@@ -11,8 +11,9 @@ use Rattle.answers.specs.declared.Answer.the-variants.{Done}
 use Rattle.layout.specs.Session.{entrySize}
 use Rattle.cached_tape.specs.Serving.{served}
 use Rattle.cached_tape.specs.ServeLaws.{length-served}
-use Rattle.entries.specs.Ways.{handle-entry, serve-missing, serve-can}
+use Rattle.entries.specs.Ways.{serve-missing, serve-can}
 use borrow.Author.Needs.{needs}
+use Rattle.session.specs.RowLaws.{handle-entry}
 use Rattle.entries.proofs.reads.serve_on.Statement.{statement}
 use Rattle.entries.proofs.reads.serve_on.Tie as tie
 

@@ -1,7 +1,7 @@
 -- `is_open_tape` is `isOpenTape`: each arm is its case. Assumes nothing.
 use mathlib.Core.Path.{_≡_}
 use Rattle.octets.specs.declared.Found.the-variants.{At}
-use Rattle.session.specs.Rows.{handleOf}
+use Rattle.session.specs.RowLaws.{handle-numbered}
 use borrow.Author.Needs.{needs}
 use Rattle.opening.proofs.calls.is_open_tape.Statement.{statement}
 use Rattle.opening.proofs.calls.is_open_tape.Tie as tie
@@ -19,14 +19,12 @@ enum-told : tie.Need-enum-told
 enum-told c = search needs
 
 returns : tie.Need-returns
-unfolding handleOf
 returns c =
     let get-handle = c .before .get-handle in
     let tape = c .before .before .before .tape in
     let args = c .before .before .before .before .before .before .args in
     let here : args .tape ≡ At (tape .given .0 .0) = tape .given .1 in
-    let handle : get-handle .result ≡ handleOf (args .session .now) (tape .given .0 .0) = get-handle .ensures in
-    rw (here, handle)
+    rw (here, handle-numbered (args .session .now) (tape .given .0 .0) (get-handle .result) (get-handle .ensures))
 
 returns-2 : tie.Need-returns-2
 returns-2 c = search needs

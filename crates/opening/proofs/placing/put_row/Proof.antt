@@ -1,12 +1,11 @@
 -- `put_row` leaves `rowed`: its four puts, one on what the other leaves. Assumes nothing.
 use mathlib.Core.Path.{_≡_, ap, _∙_}
-use mathlib.Core.Bool.{true}
 use Prim.Native.Nat.{_+_}
 use native.Mathlib.Omega.{arith}
 use Rattle.session.specs.Rows.{headOf, putStaged, putHandle}
 use Rattle.session.specs.declared.head.Head.{Head}
 use Rattle.cached_tape.specs.Filling.{filledWith}
-use Rattle.opening.specs.Calls.{cachedFrom, rowed}
+use Rattle.opening.specs.Calls.{cachedFrom, rowStaged, rowed}
 use borrow.Author.Needs.{needs}
 use Rattle.opening.proofs.placing.put_row.Statement.{statement}
 use Rattle.opening.proofs.placing.put_row.Tie as tie
@@ -57,7 +56,7 @@ returns c =
     let head : get-head .result ≡ headOf s = get-head .ensures in
     let from : cached-from .result ≡ cachedFrom o = cached-from .ensures in
     let filled : fill-cache .last .0 ≡ filledWith s p (o .cache) (cached-from .result) (args .src .now) = fill-cache .ensures in
-    let staged : put-staged .last .0 ≡ putStaged (fill-cache .last .0) p (record { touched = true; base = o .len; len = o .len; start = o .start; unwritten = 0 }) = put-staged .ensures in
+    let staged : put-staged .last .0 ≡ putStaged (fill-cache .last .0) p (rowStaged o) = put-staged .ensures in
     let handled : put-handle .last .0 ≡ putHandle (put-staged .last .0) p (record { number = get-head .result .«last_handle» + 1; entry = o .entry; «file_size» = o .«file_size» }) = put-handle .ensures in
     put-head .ensures ∙ rw (handled, staged, filled, from, head)
 

@@ -1,9 +1,8 @@
 -- `replies::reads::entry_of`: without a session, or with no such handle, it is 1; else what the handle's row says. Assumes nothing.
-use mathlib.Core.Path.{sym, ap, _∙_}
+use mathlib.Core.Path.{sym, _∙_}
 use borrow.Author.Needs.{needs}
 use Rattle.layout.specs.SessionLaws.{begun→}
-use Rattle.session.specs.Rows.{handleOf}
-use Rattle.session.specs.declared.tape_rows.Handle.{Handle}
+use Rattle.session.specs.RowLaws.{handle-entry}
 use Rattle.staging.specs.Ways.{handle-found}
 use Rattle.replies.specs.ReplyLaws.{entry-none, entry-unknown, entry-known}
 use Rattle.replies.proofs.reads.entry_of.Statement.{statement}
@@ -47,7 +46,6 @@ get-handle-requires c κs =
     )
 
 returns-2 : tie.Need-returns-2
-unfolding handleOf
 returns-2 c =
     let get-handle = c .get-handle in
     let tape = c .before .before .tape in
@@ -55,7 +53,7 @@ returns-2 c =
     let if1 = c .before .before .before .before .before .if1 in
     let is-begun-session = c .before .before .before .before .before .before .is-begun-session in
     let args = c .before .before .before .before .before .before .before .before .args in
-    ap (λ (h : Handle). h .entry) (get-handle .ensures)
+    handle-entry (args .session .now) (tape .given .0 .0) (get-handle .result) (get-handle .ensures)
     ∙ sym
     (entry-known (args .session .now) (args .handle) (tape .given .0 .0) (sym (is-begun-session .ensures) ∙ if1 .taken)
     (sym (find-handle .ensures) ∙ tape .given .1))
