@@ -20,7 +20,7 @@ pub(crate) fn answer(Reply { code, value }: Reply) -> Answer {
 pub enum Error {
     /// 1: an area is too small or breaks its layout rule, or holds no session.
     Unusable,
-    /// 2: the tape is not open in this session.
+    /// 2: the tape is not open in this session, or, on areas that somebody else changed, the transaction is not.
     Unknown,
     /// 3: an append or a truncate is asked for while either is open.
     WriterOpen,
@@ -120,8 +120,8 @@ impl Error {
 /// What happened and, behind the colon, what to check first, by number from 1 on. Of 4 the count goes before it.
 const SENTENCES: [&str; 18] = [
     "an area is too small or is not one of this store's: check the areas' lengths, and that the disk was formatted",
-    "the tape is not open in this session: check that it was opened since the session began, and that the append which \
-     created it was not dropped",
+    "the tape, or the transaction, is not open in this session: check that the tape was opened since the session began, and \
+     that the append which created it was not dropped",
     "an append or a truncate is open already: check that the one before was committed or dropped",
     "windows that began before the last cut are still open: drop those readers, and ask again",
     "all places are taken: check that at most 16 readers are open and 8 names in use",
@@ -165,7 +165,8 @@ impl std::error::Error for Error {}
 
 /// A refusal of a call that takes a value, with that value: it is as it was before the call.
 ///
-/// With `?` in a function that gives an [`Error`] the value is dropped; a transaction then closes itself.
+/// With `?` in a function that gives an [`Error`] the value is dropped; a transaction then closes itself. Where errors are boxed,
+/// `map_err(Error::from)` goes before the `?`, since a transaction can't leave with it: it borrows the store.
 pub struct Refused<T> {
     /// Why.
     pub error: Error,

@@ -48,6 +48,11 @@
 #![deny(unsafe_code)]
 #![warn(missing_docs)]
 
+/// The README's lines, run as a test.
+#[cfg(doctest)]
+#[doc = include_str!("../README.md")]
+struct Readme;
+
 mod areas;
 // no part of the API: for programs that test or measure the C functions themselves, on any areas and with any numbers, and
 // need their replies as they are (`beside/linked`, `bench`)

@@ -90,7 +90,7 @@ impl<A: Areas> Store<A> {
     ///
     /// # Errors
     ///
-    /// [`Error::Full`] if 16 are open.
+    /// [`Error::Full`] if 16 are open; [`Error::TooLarge`] where the session has given all numbers up to 2^64-1.
     pub fn reader(&self) -> Result<Reader<'_, A>, Error> {
         let number = self.writing(calls::reader)?;
         Ok(Reader::new(View::new(self, number)))
@@ -101,7 +101,8 @@ impl<A: Areas> Store<A> {
     /// # Errors
     ///
     /// [`Error::WriterOpen`] while an append or a truncate is open; [`Error::Wait`] if the last commit was a truncate's and
-    /// windows are open that began before it. Once exactly these are closed it is let in, however many opened since.
+    /// windows are open that began before it: once exactly these are closed it is let in, however many opened since.
+    /// [`Error::TooLarge`] as of [`Store::reader`].
     pub fn append(&self) -> Result<Append<'_, A>, Error> {
         let number = self.writing(calls::append)?;
         Ok(Append::new(View::new(self, number)))
@@ -111,7 +112,7 @@ impl<A: Areas> Store<A> {
     ///
     /// # Errors
     ///
-    /// [`Error::WriterOpen`] while an append or a truncate is open.
+    /// [`Error::WriterOpen`] while an append or a truncate is open; [`Error::TooLarge`] as of [`Store::reader`].
     pub fn truncate(&self) -> Result<Truncate<'_, A>, Error> {
         let number = self.writing(calls::truncate)?;
         Ok(Truncate::new(View::new(self, number)))

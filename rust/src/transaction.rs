@@ -79,7 +79,7 @@ impl<A: Areas> Append<'_, A> {
     ///
     /// [`Error::BadName`], [`Error::ReservedName`], [`Error::BadSize`]; [`Error::NotWhole`] if the tape's start or length is no
     /// multiple of the entry size; [`Error::AlreadyOpen`]; [`Error::Full`] for a ninth name; [`Error::Missing`] on a tape that
-    /// was written with another file size.
+    /// was written with another file size; [`Error::TooLarge`] where the session has given all handles up to 2^64-1.
     pub fn open(&mut self, name: impl AsRef<[u8]>, shape: Shape) -> Result<Tape, Error> {
         let (store, number, name) = (self.0.store(), self.number(), name.as_ref());
         let handle = store.writing(|areas| calls::open(areas, number, name, shape))?;

@@ -11,7 +11,7 @@ use crate::{
     Error, Refused,
 };
 
-/// No read is served with more bytes: the files of the largest disk and a cache have no more.
+/// No read is served with more bytes on areas that the store wrote: the files of the largest disk and a cache have no more.
 const MOST_BYTES: u64 = 64 * 4096 + 4096;
 
 /// An open transaction, and what it sees: what was committed when it began, and what it has staged itself. [`Reader`],

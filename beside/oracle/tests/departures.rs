@@ -131,6 +131,20 @@ fn a_short_file_is_hidden() {
     assert!(append.read_entries(&tape, 0, &mut [*b"--"]).is_err());
 }
 
+/// A read that is refused in its middle has written what it found before.
+#[test]
+fn a_refused_read_has_filled_a_part() {
+    let place = Scratch::new();
+    drop(ten_bytes(place.path()));
+    let store = Tapes::open(place.path()).unwrap();
+    let mut append = store.append();
+    let tape: Tape = append.open_blob_tape("a", options(place.path(), 4, 2, 0)).unwrap();
+    fs::write(place.path().join("tapes/a/1"), b"4").unwrap();
+    let mut bytes = *b"--------";
+    assert!(append.read_bytes(&tape, 0, &mut bytes).is_err());
+    assert_eq!(&bytes[..4], b"0123");
+}
+
 /// A7: the append waits until the older reader has gone, and for no later one.
 #[test]
 fn an_append_waits() {
