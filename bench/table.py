@@ -62,19 +62,32 @@ def simulated(command):
     return [collections.Counter({"": total}) for total in totals[1::2]]
 
 
-def b2sum_nanoseconds(command, directory):
-    """For 1 MiB, without what starting the program takes: the difference between files of 33 MiB and of 1 MiB."""
-    fastest = {}
+def fastest(command):
+    """Nanoseconds of a program from start to end, the fastest of ten runs."""
+    took = []
+    for _ in range(10):
+        began = time.perf_counter_ns()
+        subprocess.run(command, stdout=subprocess.DEVNULL, check=True)
+        took.append(time.perf_counter_ns() - began)
+    return min(took)
+
+
+def b2sum_nanoseconds(command, size, directory):
+    """For so many bytes, without what starting the program takes. It hashes files: of long ones, what 32 times as many bytes take beyond
+    these; of short ones, what each further file takes, and that is with opening it and printing its line."""
     with tempfile.TemporaryDirectory(dir=directory) as folder:
-        for size in (1, 33):
-            path = pathlib.Path(folder, "bytes")
-            path.write_bytes(bytes(5 for _ in range(1024)) * 1024 * size)
-            for _ in range(5):
-                began = time.perf_counter_ns()
-                subprocess.run([*command, "-l", "256", path], stdout=subprocess.DEVNULL, check=True)
-                took = time.perf_counter_ns() - began
-                fastest[size] = min(took, fastest.get(size, took))
-    return (fastest[33] - fastest[1]) / 32
+        once, more = pathlib.Path(folder, "once"), pathlib.Path(folder, "more")
+        once.write_bytes(bytes([5]) * size)
+        if size < 1 << 20:
+            further = 2000
+            more.write_bytes(bytes([5]) * size)
+            longer = [once, *[more] * further]
+        else:
+            further = 32
+            more.write_bytes(bytes([5]) * size * (1 + further))
+            longer = [more]
+        words = [*command, "-l", "256"]
+        return (fastest([*words, *longer]) - fastest([*words, once])) / further
 
 
 def main():
@@ -112,9 +125,8 @@ def main():
     if next(left, None) is not None:
         sys.exit("more calls were counted than timed")
 
-    if words.b2sum:
-        ours = next(row for row in rows if row[1] == "BLAKE2b of 1 MiB")
-        theirs = b2sum_nanoseconds([*emulator, words.b2sum], words.directory)
+    for ours in [row for row in rows if row[0] == "hash"] if words.b2sum else []:
+        theirs = b2sum_nanoseconds([*emulator, words.b2sum], int(ours[4]), words.directory)
         rows.insert(rows.index(ours) + 1, [*ours[:5], "b2sum", ours[6], f"{theirs:.0f}", f"{float(ours[6]) / theirs:.2f}", "", ""])
 
     out = csv.writer(sys.stdout, lineterminator="\n")

@@ -7,6 +7,7 @@ mod meter;
 mod ours;
 mod rows;
 mod theirs;
+mod words;
 
 use std::{
     fs,

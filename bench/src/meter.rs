@@ -2,11 +2,11 @@
 
 use std::{arch::asm, hint::black_box, time::Instant};
 
-const ROUNDS: usize = 10;
+const ROUNDS: usize = 30;
 
 #[derive(Clone, Copy, PartialEq, Eq)]
 pub enum Meter {
-    /// The fastest of ten rounds, in nanoseconds for each call.
+    /// The fastest of thirty rounds, in nanoseconds for each call.
     Time,
     /// Makes one call between two marks, in the order of the rows, after two calls without.
     Count,

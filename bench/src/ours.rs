@@ -18,10 +18,11 @@ pub fn prepared(shape: &Shape) -> Owned {
     served(calls::format(&mut store, shape.slots));
     served(calls::store(&mut store));
     let append = served(calls::append(&mut store));
-    for name in shape.names {
-        let handle = open(&mut store, append, name, shape);
-        for part in shape.parts() {
-            served(calls::append_entries(&mut store, append, handle, &part));
+    let handles: Vec<u64> = shape.names.iter().map(|name| open(&mut store, append, name, shape)).collect();
+    // in turns, so that the tapes' files stand among each other
+    for part in shape.parts() {
+        for handle in &handles {
+            served(calls::append_entries(&mut store, append, *handle, &part));
         }
     }
     served(calls::commit(&mut store, append));

@@ -6,10 +6,11 @@ use blake2::Digest;
 use cuprate_tapes::{Tapes, TapesRead};
 use tapes::calls;
 
-use crate::{Bench, Row, Shape, inside, meter::Meter, ours, theirs};
+use crate::{Bench, Row, Shape, inside, meter::Meter, ours, theirs, words};
 
 const RUST: &str = "rust";
 const HUNDRED: [u8; 100] = [7; 100];
+const NAMES: [&str; 8] = ["a", "b", "c", "d", "e", "f", "g", "h"];
 
 pub fn all(bench: &Bench) {
     // what a pair of marks costs by itself
@@ -29,7 +30,7 @@ pub fn all(bench: &Bench) {
         bench.append("append", "append 100 bytes and commit", &shape(64, 4096, cache, 60), 0, 0);
     }
     bench.reader("reader", &shape(64, 4096, 4096, 60), 0, 0);
-    bench.length();
+    bench.length("length", &shape(64, 4096, 4096, 60), 0);
     bench.stores();
     bench.rules("rule", 64);
     bench.hashes();
@@ -38,10 +39,10 @@ pub fn all(bench: &Bench) {
 
 /// One tape that fills so many files.
 fn shape(slots: u64, file: u64, cache: u64, files: u64) -> Shape {
-    Shape { slots, file, cache, held: (files * file) as usize, names: &["a"] }
+    Shape { slots, file, cache, held: (files * file) as usize, names: &NAMES[..1] }
 }
 
-/// How costs grow with slots, with files crossed and with open readers.
+/// How costs grow with slots, with files crossed, with open readers and with open tapes.
 fn growth(bench: &Bench) {
     for slots in [8, 16, 32, 64] {
         // all but four slots have a file; the file that is read was made last
@@ -51,6 +52,7 @@ fn growth(bench: &Bench) {
         let large = shape(slots, 4096, 4096, files);
         bench.append("slots", "append 100 bytes and commit", &large, 0, slots);
         bench.reader("slots", &large, 0, slots);
+        bench.length("slots", &large, slots);
         bench.rules("slots", slots);
     }
     for files in [1, 2, 4, 8, 16, 32, 63] {
@@ -61,13 +63,19 @@ fn growth(bench: &Bench) {
         bench.reader("readers", &shape, readers, readers as u64);
         bench.append("readers", "append 100 bytes and commit", &shape, readers, readers as u64);
     }
+    for tapes in [1, 2, 4, 7, 8] {
+        // each has six full files and one that is not, and the tapes' files stand among each other
+        let shape = Shape { slots: 64, file: 4096, cache: 4096, held: 6 * 4096 + 1000, names: &NAMES[..tapes] };
+        bench.reader("tapes", &shape, 0, tapes as u64);
+        bench.length("tapes", &shape, tapes as u64);
+    }
 }
 
 impl Bench {
     fn read(&self, group: &str, what: &str, shape: &Shape, offset: u64, count: u64, at: u64) {
         let mut out = vec![0; count as usize];
         let ours = self.meter.cost(
-            2_000,
+            20_000,
             || {
                 let mut store = ours::prepared(shape);
                 let reader = ours::served(calls::reader(&mut store));
@@ -79,7 +87,7 @@ impl Bench {
         );
         let mut same = vec![0; count as usize];
         let theirs = self.meter.cost(
-            2_000,
+            20_000,
             || {
                 let prepared = theirs::prepared(&self.root, shape);
                 let reader = prepared.tapes.reader();
@@ -120,7 +128,7 @@ impl Bench {
 
     fn reader(&self, group: &str, shape: &Shape, readers: usize, at: u64) {
         let ours = self.meter.cost(
-            2_000,
+            20_000,
             || {
                 let mut store = ours::prepared(shape);
                 for _ in 0..readers {
@@ -131,7 +139,7 @@ impl Bench {
             ours::begin_and_drop,
         );
         let theirs = self.meter.cost(
-            2_000,
+            20_000,
             || {
                 let prepared = theirs::prepared(&self.root, shape);
                 let open: Vec<_> = (0..readers).map(|_| prepared.tapes.reader()).collect();
@@ -144,12 +152,11 @@ impl Bench {
     }
 
     /// The least that a call does: both rules, then a look.
-    fn length(&self) {
-        let shape = shape(64, 4096, 4096, 60);
+    fn length(&self, group: &str, shape: &Shape, at: u64) {
         let ours = self.meter.cost(
-            2_000,
+            20_000,
             || {
-                let mut store = ours::prepared(&shape);
+                let mut store = ours::prepared(shape);
                 let reader = ours::served(calls::reader(&mut store));
                 (store, reader)
             },
@@ -158,9 +165,9 @@ impl Bench {
             },
         );
         let theirs = self.meter.cost(
-            2_000,
+            20_000,
             || {
-                let prepared = theirs::prepared(&self.root, &shape);
+                let prepared = theirs::prepared(&self.root, shape);
                 let reader = prepared.tapes.reader();
                 (prepared, reader)
             },
@@ -168,13 +175,12 @@ impl Bench {
                 black_box(reader.blob_tape_len(&prepared.tape));
             },
         );
-        let row = Row { group: "length", what: "a tape's length", file: 4096, cache: 4096, at: 0 };
-        row.print(RUST, ours, Some(theirs));
+        let what = "a tape's length";
+        Row { group, what, file: shape.file, cache: shape.cache, at }.print(RUST, ours, Some(theirs));
     }
 
     fn stores(&self) {
-        let names = &["a", "b", "c", "d", "e", "f", "g", "h"];
-        let shape = Shape { slots: 64, file: 4096, cache: 64, held: 1000, names };
+        let shape = Shape { slots: 64, file: 4096, cache: 64, held: 1000, names: &NAMES };
         let row = |what| Row { group: "store", what, file: shape.file, cache: shape.cache, at: 8 };
         let ours = self.meter.cost(
             500,
@@ -197,10 +203,14 @@ impl Bench {
         let row = |what| Row { group, what, file: shape.file, cache: shape.cache, at: slots };
         let prepare = || ours::prepared(&shape);
         assert!(!inside::sound_disk(&[0; 4096]) && !inside::begun_session(&[0; 40_000]));
-        let disk = self.meter.cost(2_000, prepare, |store| assert!(inside::sound_disk(&store.disk)));
+        let disk = self.meter.cost(20_000, prepare, |store| assert!(inside::sound_disk(&store.disk)));
         row("the disk's layout rule").print("", disk, None);
-        let session = self.meter.cost(2_000, prepare, |store| assert!(inside::begun_session(&store.session)));
+        let session = self.meter.cost(20_000, prepare, |store| assert!(inside::begun_session(&store.session)));
         row("the session's layout rule").print("", session, None);
+        let words = self.meter.cost(20_000, prepare, |store| {
+            black_box(words::joined(&store.disk, &store.session));
+        });
+        row("the words of both rules read without a test").print("", words, None);
     }
 
     /// BLAKE2b of a record of 8 tapes and of 1 MiB, beside the stand-in that the Rust is built with.

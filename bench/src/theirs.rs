@@ -28,8 +28,8 @@ pub fn prepared(root: &Path, shape: &Shape) -> Theirs {
     let tapes = Tapes::open(root).expect("the metadata");
     let mut append = tapes.append();
     let mut opened: Vec<Tape> = shape.names.iter().map(|name| open(&mut append, root, name, shape)).collect();
-    for tape in &opened {
-        for part in shape.parts() {
+    for part in shape.parts() {
+        for tape in &opened {
             append.append_bytes(tape, &part).expect("it is appended");
         }
     }

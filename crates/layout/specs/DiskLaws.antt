@@ -1,16 +1,16 @@
 -- Laws of the disk's rule: its ways out in the code's order, and the rule as a test and as facts. Assumes nothing.
-use mathlib.Core.Path.{_≡_, _∙_}
+use mathlib.Core.Path.{_≡_, ap, _∙_}
 use mathlib.Core.Logic.{_≢_}
-use mathlib.Core.Bool.{true, false, _&&_}
+use mathlib.Core.Bool.{Bool, true, false, _&&_}
 use mathlib.Core.List.{List}
-use Prim.Native.Nat.{ℕ, _≤_, _<_}
+use Prim.Native.Nat.{ℕ, _+_, _-_, _≤_, _<_}
 use native.Mathlib.Omega.{arith}
 use borrow.Author.Tests.{le-leb, lt-leb, leb-true, eq-eqb, ne-eqb, eqb-true}
 use lib.Dec.{eqb, leb}
 use lib.ListN.{length}
 use Rattle.octets.specs.Number.{numAt}
 use Rattle.octets.specs.Cases.{and-l, and-r}
-use Rattle.octets.specs.First.{all, all-true, all-holds}
+use Rattle.octets.specs.First.{all, all-true, all-holds, all-split}
 use Rattle.layout.specs.Names.{nameFits}
 use Rattle.layout.specs.NamesLaws.{names-fit, fit-names}
 use Rattle.layout.specs.Disk.{mark, directories, dataAt, slots, leftLen, rightLen, owner, len, headFits, entryFits, sound, HeadSound, Sound}
@@ -63,6 +63,14 @@ module _ (s : List ℕ) (i : ℕ) where
 
   pub good-entry : owner s i ≤ 8 → len s i ≤ 4096 → entryFits s i ≡ true
   good-entry o h = rw (le-leb (owner s i) 8 o, le-leb (len s i) 4096 h)
+
+-- ---- the entries: the next eight, and those behind them
+
+pub next-eight : (s : List ℕ) (n i : ℕ) (b : Bool) → i + 8 ≤ n → all (entryFits s) 8 i ≡ b
+    → all (entryFits s) (n - i) i ≡ (b && all (entryFits s) (n - (i + 8)) (i + 8))
+next-eight s n i b low h =
+    let e : n - i ≡ 8 + (n - (i + 8)) = omega arith in
+    rw e (all-split (entryFits s) 8 (n - (i + 8)) i) ∙ ap (λ (x : Bool). x && all (entryFits s) (n - (i + 8)) (i + 8)) h
 
 -- ---- the rule: a law for each way out
 

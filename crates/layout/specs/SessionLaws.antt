@@ -2,18 +2,19 @@
 -- Assumes nothing.
 use mathlib.Core.Path.{_≡_, sym, _∙_}
 use mathlib.Core.Logic.{_≢_, _⊎_, inl, inr}
-use mathlib.Core.Bool.{true, false, true≢false, _&&_}
+use mathlib.Core.Bool.{true, false, true≢false, _&&_, and-true}
 use mathlib.Core.List.{List}
-use Prim.Native.Nat.{ℕ, _≤_, _<_}
+use Prim.Native.Nat.{ℕ, _^_, _≤_, _<_}
 use native.Mathlib.Omega.{arith}
 use borrow.Author.Tests.{lt-ltb, le-ltb, le-leb, lt-leb, eq-eqb, ne-eqb, leb-true, ltb-true, eqb-true}
 use lib.Dec.{eqb, leb, ltb}
 use lib.ListN.{length, replicate, length-replicate}
-use Rattle.octets.specs.Cases.{and-l, and-r, order, equal}
+use Rattle.octets.specs.Cases.{and-l, and-r, decide, order, equal}
 use Rattle.octets.specs.Number.{numAt, numAt-zeros}
-use Rattle.octets.specs.First.{all, all-true, all-holds}
+use Rattle.octets.specs.First.{all, all-true, all-holds, all-skip}
 use Rattle.layout.specs.Names.{nameFits}
 use Rattle.layout.specs.NamesLaws.{names-fit, fit-names}
+use Rattle.layout.specs.Joined.{joined, joined-above, joined-below}
 use Rattle.layout.specs.Session.{mark, sessionBytes, namesAt, kindWord, handleNumber, entrySize, fileSize, capacity, ringStart, ringLen, unwritten, ringFits, tapeFits, kindFits, tablesFit, begun, sound, RingFits, TapeFits, Begun}
 
 -- ---- the ways out of a ring's test
@@ -80,6 +81,31 @@ module _ (s : List ℕ) (t : ℕ) (high : 16 ≤ t) where
   pub kind-writer : kindWord s t ≢ 1 → kindFits s t ≡ leb (kindWord s t) 3
   unfolding kindFits
   kind-writer h = simp (le-ltb _ _ high, ne-eqb _ _ h)
+
+-- ---- of the transaction places', with the readers' joined
+
+module _ (s : List ℕ) where
+  pub kinds-bad : 1 < joined (kindWord s) 16 → all (kindFits s) 17 0 ≡ false
+  kinds-bad h =
+      decide (all (kindFits s) 17 0)
+      (λ (t : all (kindFits s) 17 0 ≡ true).
+      let each : (i : ℕ) → i < 16 → kindWord s i < 2 ^ 1
+      = λ i l.
+      let one : kindWord s i ≤ 1 = leb-true _ _ (sym (kind-reader s i l) ∙ all-holds (kindFits s) 17 0 t i (omega arith) (omega arith)) in
+      omega arith in
+      let low : joined (kindWord s) 16 < 2 ^ 1 = joined-below (kindWord s) 1 16 each in
+      absurd (omega arith))
+      (λ f. f)
+
+  pub kinds-good : joined (kindWord s) 16 ≤ 1 → all (kindFits s) 17 0 ≡ kindFits s 16
+  unfolding all
+  kinds-good h =
+      all-skip (kindFits s) 16 1 0
+      (λ i l m.
+      let few : i < 16 = omega arith in
+      let low : kindWord s i ≤ joined (kindWord s) 16 = joined-above (kindWord s) 16 i few in
+      kind-reader s i few ∙ le-leb (kindWord s i) 1 (omega arith))
+      ∙ and-true (kindFits s 16)
 
 -- ---- of the tables'
 

@@ -3,7 +3,9 @@ use crate::names::names_fit;
 ghost use mathlib.Core.Path.{_≡_};
 ghost use Prim.Native.Nat.{_+_, _-_, _≤_, _<_};
 ghost use Rattle.octets.specs.First.{all};
-ghost use Rattle.layout.specs.Disk.{HeadSound, dataAt, headFits, entryFits, slots, sound};
+ghost use lib.Dec.{leb};
+ghost use Rattle.layout.specs.Disk.{HeadSound, dataAt, headFits, entryFits, slots, len, sound};
+ghost use Rattle.layout.specs.Joined.{ownersJoined};
 
 // The offsets and limits of the disk's area. The type carries these constants; its field is the one
 // thing that differs between disks.
@@ -79,17 +81,25 @@ fn head_fits(disk: &[u8]) -> bool
     octets::u64_at(disk, Disk::RIGHT_LEN) as usize <= Disk::SIDE_BYTES
 }
 
+// Whether the file of a slot is no longer than the slot.
+fn length_fits(disk: &[u8], slot: usize) -> bool
+    requires { ⌜ HeadSound (now disk) × (slot < slots (now disk)) ⌝ }
+    ensures { λ r. ⌜ r ≡ leb (len (now (disk .entry)) slot) 4096 ⌝ }
+{
+    octets::u64_at(disk, Disk::ENTRIES + slot * Disk::ENTRY_BYTES + 16) as usize <= Disk::SLOT_BYTES
+}
+
 // Whether the owner of a slot is a directory's place plus 1, or 0, and its file is no longer than a
 // slot.
 fn entry_fits(disk: &[u8], slot: usize) -> bool
     requires { ⌜ HeadSound (now disk) × (slot < slots (now disk)) ⌝ }
     ensures { λ r. ⌜ r ≡ entryFits (now (disk .entry)) slot ⌝ }
 {
-    let entry = Disk::ENTRIES + slot * Disk::ENTRY_BYTES;
-    if Disk::MOST_DIRECTORIES < octets::u64_at(disk, entry) as usize {
+    let owner = octets::u64_at(disk, Disk::ENTRIES + slot * Disk::ENTRY_BYTES) as usize;
+    if Disk::MOST_DIRECTORIES < owner {
         return false;
     }
-    octets::u64_at(disk, entry + 16) as usize <= Disk::SLOT_BYTES
+    length_fits(disk, slot)
 }
 
 // The same of the slots from one on up to another.
@@ -126,7 +136,56 @@ fn eight_fit(disk: &[u8], slot: usize) -> bool
     true
 }
 
-// The same of all slots. Every call pays this, so it goes by eights.
+// What `each_fits` says, by eights.
+fn eights_fit(disk: &[u8], from: usize, to: usize) -> bool
+    requires { ⌜ HeadSound (now disk) × ((from ≤ to) × (to ≤ slots (now disk))) ⌝ }
+    ensures { λ r. ⌜ r ≡ all (entryFits (now (disk .entry))) (to - from) from ⌝ }
+{
+    let mut i = from;
+    while i + 8 <= to {
+        if eight_fit(disk, i) {
+            i += 8;
+        } else {
+            return false;
+        }
+    }
+    each_fits(disk, i, to)
+}
+
+// The owners of eight slots joined by OR, which is no less than each of them.
+fn owners_joined(disk: &[u8], slot: usize) -> usize
+    requires { ⌜ HeadSound (now disk) × (slot + 8 ≤ slots (now disk)) ⌝ }
+    ensures { λ r. ⌜ r ≡ ownersJoined (now (disk .entry)) slot ⌝ }
+{
+    let mut joined = 0;
+    let mut i = 0;
+    while i < 8 {
+        let owner = octets::u64_at(disk, Disk::ENTRIES + (slot + i) * Disk::ENTRY_BYTES) as usize;
+        joined = joined | owner;
+        i += 1;
+    }
+    joined
+}
+
+// What `eight_fit` says, of eight slots whose owners fit.
+fn lengths_fit(disk: &[u8], slot: usize) -> bool
+    requires { ⌜ (HeadSound (now disk) × (slot + 8 ≤ slots (now disk))) × (ownersJoined (now disk) slot ≤ 8) ⌝ }
+    ensures { λ r. ⌜ r ≡ all (entryFits (now (disk .entry))) 8 slot ⌝ }
+{
+    let mut i = 0;
+    while i < 8 {
+        if length_fits(disk, slot + i) {
+            i += 1;
+        } else {
+            return false;
+        }
+    }
+    true
+}
+
+// The same of all slots. Every call pays this, so owners are joined, which is one instruction for each
+// beside a test's two. Where a join is above 8, which it is too where files of the eighth directory
+// stand among others', each owner is tested from there on.
 fn entries_fit(disk: &[u8]) -> bool
     requires { ⌜ HeadSound (now disk) ⌝ }
     ensures { λ r. ⌜ r ≡ all (entryFits (now (disk .entry))) (slots (now (disk .entry))) 0 ⌝ }
@@ -134,7 +193,10 @@ fn entries_fit(disk: &[u8]) -> bool
     let count = octets::u64_at(disk, Disk::SLOT_COUNT) as usize;
     let mut i = 0;
     while i + 8 <= count {
-        if eight_fit(disk, i) {
+        if Disk::MOST_DIRECTORIES < owners_joined(disk, i) {
+            return eights_fit(disk, i, count);
+        }
+        if lengths_fit(disk, i) {
             i += 8;
         } else {
             return false;

@@ -4,7 +4,8 @@ ghost use mathlib.Core.Path.{_≡_};
 ghost use Prim.Native.Nat.{_≤_, _<_};
 ghost use lib.ListN.{length};
 ghost use Rattle.octets.specs.First.{all};
-ghost use Rattle.layout.specs.Session.{ringFits, tapeFits, kindFits, tablesFit, begun, sound};
+ghost use Rattle.layout.specs.Session.{kindWord, ringFits, tapeFits, kindFits, tablesFit, begun, sound};
+ghost use Rattle.layout.specs.Joined.{joined};
 
 // The offsets and limits of the session's area. The type carries these constants; its field is how
 // long an area is.
@@ -130,38 +131,36 @@ fn tapes_fit(session: &[u8]) -> bool
     true
 }
 
-// Whether a transaction place has a kind that may stand there: 0 is closed, 1 a reader; in the
-// writer's place 2 is an append and 3 a truncate.
-fn kind_fits(session: &[u8], place: usize) -> bool
-    requires { ⌜ (38728 ≤ length (now session)) × (place < 17) ⌝ }
-    ensures { λ r. ⌜ r ≡ kindFits (now (session .entry)) place ⌝ }
+// The kinds of the readers' places joined by OR: no more than 1 just where each is 0 or 1.
+fn readers_joined(session: &[u8]) -> u64
+    requires { ⌜ 38728 ≤ length (now session) ⌝ }
+    ensures { λ r. ⌜ r ≡ joined (kindWord (now (session .entry))) 16 ⌝ }
 {
-    let kind = octets::u64_at(
-        session,
-        Session::TRANSACTIONS + place * Session::TRANSACTION_BYTES,
-    );
-    if place < Session::MOST_READERS {
-        return kind <= 1;
+    let mut joined = 0;
+    let mut i = 0;
+    while i < Session::MOST_READERS {
+        let at = Session::TRANSACTIONS + i * Session::TRANSACTION_BYTES;
+        joined = joined | octets::u64_at(session, at);
+        i += 1;
     }
-    if kind == 1 {
-        return false;
-    }
-    kind <= 3
+    joined
 }
 
+// Whether each transaction place has a kind that may stand there: 0 is closed, 1 a reader; in the
+// writer's place 2 is an append and 3 a truncate.
 fn kinds_fit(session: &[u8]) -> bool
     requires { ⌜ 38728 ≤ length (now session) ⌝ }
     ensures { λ r. ⌜ r ≡ all (kindFits (now (session .entry))) 17 0 ⌝ }
 {
-    let mut i = 0;
-    while i <= Session::WRITER {
-        if kind_fits(session, i) {
-            i += 1;
-        } else {
-            return false;
-        }
+    if 1 < readers_joined(session) {
+        return false;
     }
-    true
+    let at = Session::TRANSACTIONS + Session::WRITER * Session::TRANSACTION_BYTES;
+    let kind = octets::u64_at(session, at);
+    if kind == 1 {
+        return false;
+    }
+    kind <= 3
 }
 
 // Whether the tables of a session are in range.
