@@ -1,9 +1,9 @@
 #!/usr/bin/env python3
 """Draws tables that bench/run printed: plot.py [--title WORDS] FIGURES [OTHERS..] > plot.svg.
 
-Above, each row's ratio, ours to the Rust's, by time and by instructions, with the range of the times' ratios over all tables; below, how
-times grow with slots, with files crossed and with open readers, of the first table. All axes but those of slots, files and readers are
-logarithmic.
+Above, each row's ratio, ours to the Rust's, by time and by instructions: by time that of the fastest of each over all tables, with the
+range of the tables' own ratios; below, how the fastest times grow with slots, files crossed, open readers and open tapes. All axes but those
+of these four are logarithmic.
 """
 import argparse
 import csv
@@ -14,7 +14,7 @@ import sys
 WIDTH = 1000
 OURS, THEIRS, COUNTED, FRAME, TEXT = "#0072b2", "#d55e00", "#777777", "#cccccc", "#222222"
 MAIN = ("read", "append", "reader", "length", "store", "hash")
-GROWTH = (("slots", "slots"), ("files", "files crossed"), ("readers", "open readers"))
+GROWTH = (("slots", "slots"), ("files", "files crossed"), ("readers", "open readers"), ("tapes", "open tapes"))
 
 
 class Drawing:
@@ -61,10 +61,18 @@ def ratio_of(row):
     return float(row["ours_ns"]) / float(row["theirs_ns"])
 
 
-def ratios(drawing, rows, others, top):
+def fastest(row, tables):
+    """The row with the fastest times that it has in any of the tables."""
+    same = [other for table in tables for other in table if place_of(other) == place_of(row)]
+    times = {side: [float(other[side]) for other in same if other[side]] for side in ("ours_ns", "theirs_ns")}
+    ratios_of = [ratio_of(other) for other in same if other["theirs_ns"]]
+    return {**row, **{side: min(found) if found else "" for side, found in times.items()}, "ratios": ratios_of}
+
+
+def ratios(drawing, rows, top):
     left, right, step = 330, WIDTH - 40, 16
     # doublings left and right of 1
-    least, most = -3, 5
+    least, most = -4, 4
 
     def place(ratio):
         return left + (min(max(math.log2(ratio), least), most) - least) / (most - least) * (right - left)
@@ -78,13 +86,12 @@ def ratios(drawing, rows, others, top):
         drawing.text(left - 8, y + 4, label(row), "end")
         if row["ours_instructions"] and row["theirs_instructions"]:
             drawing.dot(place(int(row["ours_instructions"]) / int(row["theirs_instructions"])), y, COUNTED, False)
-        same = [ratio_of(other) for other in others if place_of(other) == place_of(row)] + [ratio_of(row)]
-        drawing.line(place(min(same)), y, place(max(same)), y, OURS)
+        drawing.line(place(min(row["ratios"])), y, place(max(row["ratios"])), y, OURS)
         drawing.dot(place(ratio_of(row)), y, OURS)
     drawing.dot(left + 10, bottom + 16, OURS)
-    drawing.text(left + 18, bottom + 20, "time, ours / theirs; range over builds")
-    drawing.dot(left + 275, bottom + 16, COUNTED, False)
-    drawing.text(left + 283, bottom + 20, "instructions, ours / theirs (none of the system's)")
+    drawing.text(left + 18, bottom + 20, "time, ours / theirs, fastest of each; range over builds")
+    drawing.dot(left + 365, bottom + 16, COUNTED, False)
+    drawing.text(left + 373, bottom + 20, "instructions, ours / theirs (none of the system's)")
     return bottom + 34
 
 
@@ -104,7 +111,7 @@ def growth(drawing, rows, words, left, top, width, height):
         drawing.line(left, y(10**power), left + width, y(10**power))
         drawing.text(left - 5, y(10**power) + 4, f"{10**power:,}", "end", 10)
     drawing.line(left, top, left, top + height)
-    for at in sorted({int(row["at"]) for row in rows if int(row["at"]) % 8 == 0 or int(row["at"]) == most_at}):
+    for at in sorted({int(row["at"]) for row in rows if int(row["at"]) % 8 == 0 or int(row["at"]) == most_at or most_at <= 8}):
         drawing.text(x(at), top + height + 14, str(at), "middle", 10)
     drawing.text(left + width / 2, top + height + 30, words, "middle")
     for number, what in enumerate(dict.fromkeys(row["what"] for row in rows)):
@@ -125,18 +132,18 @@ def main():
     parser.add_argument("--title", default="The store beside the Rust")
     parser.add_argument("figures", nargs="+")
     words = parser.parse_args()
-    rows, *others = [list(csv.DictReader(open(path, newline=""))) for path in words.figures]
-    others = [row for table in others for row in table]
+    tables = [list(csv.DictReader(open(path, newline=""))) for path in words.figures]
+    rows = [fastest(row, tables) for row in tables[0]]
     drawing = Drawing()
     drawing.text(20, 26, words.title, size=15)
-    top = ratios(drawing, [row for row in rows if row["group"] in MAIN and row["theirs_ns"]], others, 64)
+    top = ratios(drawing, [row for row in rows if row["group"] in MAIN and row["theirs_ns"]], 64)
     drawing.text(20, top + 22, "Nanoseconds: ours", size=12, colour=OURS)
     drawing.text(140, top + 22, "the Rust, dashed", size=12, colour=THEIRS)
     for number, (group, axis) in enumerate(GROWTH):
         of_group = [row for row in rows if row["group"] == group]
         if of_group:
-            growth(drawing, of_group, axis, 65 + number * 320, top + 46, 255, 260)
-    sys.stdout.write(drawing.svg(top + 430))
+            growth(drawing, of_group, axis, 60 + number * 245, top + 46, 165, 260)
+    sys.stdout.write(drawing.svg(top + 450))
 
 
 main()

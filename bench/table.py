@@ -73,21 +73,22 @@ def fastest(command):
 
 
 def b2sum_nanoseconds(command, size, directory):
-    """For so many bytes, without what starting the program takes. It hashes files: of long ones, what 32 times as many bytes take beyond
-    these; of short ones, what each further file takes, and that is with opening it and printing its line."""
+    """Nanoseconds for so many bytes, without what starting the program takes. It hashes files. From 1 MiB on: what a file 33 times as long
+    takes beyond one, for each of the 32, with reading it; of fewer: what each of 2,000 further files takes, with opening and reading it and
+    printing its line."""
     with tempfile.TemporaryDirectory(dir=directory) as folder:
         once, more = pathlib.Path(folder, "once"), pathlib.Path(folder, "more")
         once.write_bytes(bytes([5]) * size)
         if size < 1 << 20:
             further = 2000
             more.write_bytes(bytes([5]) * size)
-            longer = [once, *[more] * further]
+            longer = [str(once), *[str(more)] * further]
         else:
             further = 32
             more.write_bytes(bytes([5]) * size * (1 + further))
-            longer = [more]
+            longer = [str(more)]
         words = [*command, "-l", "256"]
-        return (fastest([*words, *longer]) - fastest([*words, once])) / further
+        return (fastest([*words, *longer]) - fastest([*words, str(once)])) / further
 
 
 def main():
@@ -126,8 +127,11 @@ def main():
         sys.exit("more calls were counted than timed")
 
     for ours in [row for row in rows if row[0] == "hash"] if words.b2sum else []:
-        theirs = b2sum_nanoseconds([*emulator, words.b2sum], int(ours[4]), words.directory)
-        rows.insert(rows.index(ours) + 1, [*ours[:5], "b2sum", ours[6], f"{theirs:.0f}", f"{float(ours[6]) / theirs:.2f}", "", ""])
+        size = int(ours[4])
+        theirs = b2sum_nanoseconds([*emulator, words.b2sum], size, words.directory)
+        # of a short message it is a whole file's work, so there is no ratio of it that plot.py could draw
+        group, ratio = ("hash", f"{float(ours[6]) / theirs:.2f}") if size >= 1 << 20 else ("file", "")
+        rows.insert(rows.index(ours) + 1, [group, *ours[1:5], "b2sum", ours[6], f"{theirs:.0f}", ratio, "", ""])
 
     out = csv.writer(sys.stdout, lineterminator="\n")
     out.writerow([*header, "ours_instructions", "theirs_instructions"])

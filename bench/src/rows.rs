@@ -203,6 +203,7 @@ impl Bench {
         let row = |what| Row { group, what, file: shape.file, cache: shape.cache, at: slots };
         let prepare = || ours::prepared(&shape);
         assert!(!inside::sound_disk(&[0; 4096]) && !inside::begun_session(&[0; 40_000]));
+        words::check(&mut prepare());
         let disk = self.meter.cost(20_000, prepare, |store| assert!(inside::sound_disk(&store.disk)));
         row("the disk's layout rule").print("", disk, None);
         let session = self.meter.cost(20_000, prepare, |store| assert!(inside::begun_session(&store.session)));

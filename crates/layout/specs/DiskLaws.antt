@@ -13,6 +13,7 @@ use Rattle.octets.specs.Cases.{and-l, and-r}
 use Rattle.octets.specs.First.{all, all-true, all-holds, all-split}
 use Rattle.layout.specs.Names.{nameFits}
 use Rattle.layout.specs.NamesLaws.{names-fit, fit-names}
+use Rattle.layout.specs.Joined.{joined, joined-above}
 use Rattle.layout.specs.Disk.{mark, directories, dataAt, slots, leftLen, rightLen, owner, len, headFits, entryFits, sound, HeadSound, Sound}
 
 -- ---- the head: a law for each way out
@@ -63,6 +64,16 @@ module _ (s : List ℕ) (i : ℕ) where
 
   pub good-entry : owner s i ≤ 8 → len s i ≤ 4096 → entryFits s i ≡ true
   good-entry o h = rw (le-leb (owner s i) 8 o, le-leb (len s i) 4096 h)
+
+-- ---- the owners of eight slots, joined: where the join fits, so does each
+
+abbrev pub ownersJoined : List ℕ → ℕ → ℕ
+ownersJoined s slot = joined (λ (i : ℕ). owner s (slot + i)) 8
+
+pub joined-length : (s : List ℕ) (slot i : ℕ) → i < 8 → ownersJoined s slot ≤ 8 → entryFits s (slot + i) ≡ leb (len s (slot + i)) 4096
+joined-length s slot i l h =
+    let each : owner s (slot + i) ≤ ownersJoined s slot = joined-above (λ (k : ℕ). owner s (slot + k)) 8 i l in
+    by-length s (slot + i) (omega arith)
 
 -- ---- the entries: the next eight, and those behind them
 

@@ -1,5 +1,4 @@
 -- Words of a table joined by OR, as the rules' code reads them before it tests, and what the join says of each word. Assumes nothing.
-use mathlib.Core.List.{List}
 use mathlib.Core.Path.{_≡_}
 use Prim.Native.Nat.{ℕ, zero, suc, _+_, _^_, _≤_, _<_}
 use native.Mathlib.Numerals.{add-one}
@@ -7,16 +6,11 @@ use native.Mathlib.Omega.{arith}
 use lib.Bits.{bitOr, or-lt, or-add-and, and-le-l, and-le-r}
 use lib.Pow.{pow-pos}
 use Rattle.octets.specs.Cases.{equal}
-use Rattle.layout.specs.Disk.{owner}
 
 -- the first k words
 unfoldable pub joined : (ℕ → ℕ) → ℕ → ℕ
 joined f zero = 0
 joined f (suc k) = bitOr (joined f k) (f k)
-
--- the owners of eight slots
-abbrev pub ownersJoined : List ℕ → ℕ → ℕ
-ownersJoined s slot = joined (λ (i : ℕ). owner s (slot + i)) 8
 
 -- one word more
 pub joined-more : (f : ℕ → ℕ) (k held next : ℕ) → held ≡ joined f k → next ≡ f k → bitOr held next ≡ joined f (k + 1)

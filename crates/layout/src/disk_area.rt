@@ -2,10 +2,10 @@
 use crate::names::names_fit;
 ghost use mathlib.Core.Path.{_≡_};
 ghost use Prim.Native.Nat.{_+_, _-_, _≤_, _<_};
-ghost use Rattle.octets.specs.First.{all};
 ghost use lib.Dec.{leb};
+ghost use Rattle.octets.specs.First.{all};
 ghost use Rattle.layout.specs.Disk.{HeadSound, dataAt, headFits, entryFits, slots, len, sound};
-ghost use Rattle.layout.specs.Joined.{ownersJoined};
+ghost use Rattle.layout.specs.DiskLaws.{ownersJoined};
 
 // The offsets and limits of the disk's area. The type carries these constants; its field is the one
 // thing that differs between disks.
@@ -119,8 +119,7 @@ fn each_fits(disk: &[u8], from: usize, to: usize) -> bool
 }
 
 // The same of eight slots. A loop of eight turns is unrolled, so that a slot costs its two tests and no
-// more. (`each_fits` up to slot + 8 is unrolled too, but then the compiler reads the slot count byte by
-// byte.)
+// more.
 fn eight_fit(disk: &[u8], slot: usize) -> bool
     requires { ⌜ HeadSound (now disk) × (slot + 8 ≤ slots (now disk)) ⌝ }
     ensures { λ r. ⌜ r ≡ all (entryFits (now (disk .entry))) 8 slot ⌝ }
@@ -167,7 +166,7 @@ fn owners_joined(disk: &[u8], slot: usize) -> usize
     joined
 }
 
-// What `eight_fit` says, of eight slots whose owners fit.
+// What `eight_fit` says, of eight slots whose owners join to no more than 8: each owner fits then.
 fn lengths_fit(disk: &[u8], slot: usize) -> bool
     requires { ⌜ (HeadSound (now disk) × (slot + 8 ≤ slots (now disk))) × (ownersJoined (now disk) slot ≤ 8) ⌝ }
     ensures { λ r. ⌜ r ≡ all (entryFits (now (disk .entry))) 8 slot ⌝ }
@@ -183,9 +182,10 @@ fn lengths_fit(disk: &[u8], slot: usize) -> bool
     true
 }
 
-// The same of all slots. Every call pays this, so owners are joined, which is one instruction for each
-// beside a test's two. Where a join is above 8, which it is too where files of the eighth directory
-// stand among others', each owner is tested from there on.
+// Whether `entry_fits` holds of all slots. Every call pays this, so the owners of eight slots are joined
+// and the join is tested: an owner costs one instruction, where a test costs two. A join above 8 need
+// not mean a bad owner (8 and 1 join to 9: files of the eighth directory among others'), so from there
+// on each owner is tested.
 fn entries_fit(disk: &[u8]) -> bool
     requires { ⌜ HeadSound (now disk) ⌝ }
     ensures { λ r. ⌜ r ≡ all (entryFits (now (disk .entry))) (slots (now (disk .entry))) 0 ⌝ }

@@ -1,14 +1,13 @@
 -- `lengths_fit` answers `all` of `entryFits`: each owner is no more than the join. The loop's invariant: testing the slots that are left is testing
 -- all eight. Assumes nothing.
 use mathlib.Core.Path.{_≡_, sym, _∙_}
-use Prim.Native.Nat.{ℕ, _+_, _-_, _≤_, _<_}
+use Prim.Native.Nat.{_+_, _-_, _≤_, _<_}
 use native.Mathlib.Nat.{add-zero}
 use native.Mathlib.Omega.{arith}
 use borrow.Author.Needs.{needs}
 use Rattle.octets.specs.First.{all, all-hit, all-miss, all-none}
-use Rattle.layout.specs.Disk.{owner, entryFits}
-use Rattle.layout.specs.DiskLaws.{by-length}
-use Rattle.layout.specs.Joined.{ownersJoined, joined-above}
+use Rattle.layout.specs.Disk.{entryFits}
+use Rattle.layout.specs.DiskLaws.{joined-length}
 use Rattle.layout.proofs.disk_area.lengths_fit.Statement.{statement}
 use Rattle.layout.proofs.disk_area.lengths_fit.Tie as tie
 
@@ -46,9 +45,8 @@ loop-again c =
     let few : loop .i < 8 = omega arith in
     let low : at < args .slot + 8 = omega arith in
     let e : args .slot + (loop .i + 1) ≡ at + 1 = omega arith in
-    let each : owner s at ≤ ownersJoined s (args .slot) = joined-above (λ (k : ℕ). owner s (args .slot + k)) 8 (loop .i) few in
-    let small : owner s at ≤ 8 = omega arith in
-    (omega arith, rw e (sym (all-hit (entryFits s) (args .slot + 8) at low (by-length s at small ∙ sym (fits .ensures) ∙ c .if1 .taken)) ∙ loop .inv .1))
+    let here = joined-length s (args .slot) (loop .i) few (omega arith) in
+    (omega arith, rw e (sym (all-hit (entryFits s) (args .slot + 8) at low (here ∙ sym (fits .ensures) ∙ c .if1 .taken)) ∙ loop .inv .1))
 
 returns : tie.Need-returns Inv-loop μ-loop
 returns c =
@@ -59,9 +57,8 @@ returns c =
     let at = args .slot + loop .i in
     let few : loop .i < 8 = omega arith in
     let low : at < args .slot + 8 = omega arith in
-    let each : owner s at ≤ ownersJoined s (args .slot) = joined-above (λ (k : ℕ). owner s (args .slot + k)) 8 (loop .i) few in
-    let small : owner s at ≤ 8 = omega arith in
-    sym (all-miss (entryFits s) (args .slot + 8) at low (by-length s at small ∙ sym (fits .ensures) ∙ c .if1 .left)) ∙ loop .inv .1
+    let here = joined-length s (args .slot) (loop .i) few (omega arith) in
+    sym (all-miss (entryFits s) (args .slot + 8) at low (here ∙ sym (fits .ensures) ∙ c .if1 .left)) ∙ loop .inv .1
 
 returns-2 : tie.Need-returns-2 Inv-loop μ-loop
 returns-2 c =
