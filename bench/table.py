@@ -131,7 +131,7 @@ def main():
         theirs = b2sum_nanoseconds([*emulator, words.b2sum], size, words.directory)
         # of a short message it is a whole file's work, so there is no ratio of it that plot.py could draw
         group, ratio = ("hash", f"{float(ours[6]) / theirs:.2f}") if size >= 1 << 20 else ("file", "")
-        rows.insert(rows.index(ours) + 1, [group, *ours[1:5], "b2sum", ours[6], f"{theirs:.0f}", ratio, "", ""])
+        rows.insert(rows.index(ours) + 1, [group, *ours[1:5], "b2sum", ours[6], f"{theirs:.1f}", ratio, "", ""])
 
     out = csv.writer(sys.stdout, lineterminator="\n")
     out.writerow([*header, "ours_instructions", "theirs_instructions"])

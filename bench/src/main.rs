@@ -52,8 +52,8 @@ impl Row<'_> {
     pub fn print(&self, beside: &str, ours: f64, theirs: Option<f64>) {
         let Row { group, what, file, cache, at } = self;
         let theirs = theirs
-            .map_or([String::new(), String::new()], |theirs| [format!("{theirs:.0}"), format!("{:.2}", ours / theirs)]);
-        println!("{group},{what},{file},{cache},{at},{beside},{ours:.0},{}", theirs.join(","));
+            .map_or([String::new(), String::new()], |theirs| [format!("{theirs:.1}"), format!("{:.2}", ours / theirs)]);
+        println!("{group},{what},{file},{cache},{at},{beside},{ours:.1},{}", theirs.join(","));
     }
 }
 
