@@ -1,6 +1,8 @@
 // What a call answers: a value, or a refusal with its reason. Document 01's table of refusal numbers
 // stands in `specs/Answers.antt`; the functions give its numbers to whoever talks in numbers. Proved,
 // and nothing is assumed.
+#![tactic(auto)]
+
 ghost use Rattle.std.specs.Prelude.{◌≡◌};
 ghost use Rattle.answers.specs.Answers.{refusal_number, refusal_value, code_of, value_of, entry_code_of, entry_value_of};
 

@@ -3,6 +3,8 @@
 //
 // `specs/` says for the call, on every input, what it answers and what the areas then hold. Proved,
 // and nothing is assumed.
+#![tactic(auto)]
+
 mod calls;
 mod room;
 

@@ -2,6 +2,8 @@
 //
 // `specs/Format.antt` says what it answers and what both areas then hold, on every input; the laws
 // beside it say what that means: an empty disk, and no session. Proved, and nothing is assumed.
+#![tactic(auto)]
+
 ghost use Rattle.std.specs.Prelude.{◌≡◌};
 ghost use Rattle.areas.specs.Format.{format_step, outcome};
 

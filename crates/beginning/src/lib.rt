@@ -4,6 +4,8 @@
 //
 // `specs/` says for each call, on every input, what it answers and what the areas then hold. Proved,
 // and nothing is assumed.
+#![tactic(auto)]
+
 mod calls;
 mod disks;
 mod sessions;

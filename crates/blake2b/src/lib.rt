@@ -3,6 +3,8 @@
 //
 // `specs/` is sections 2 and 3 of the RFC in pure definitions, with its names; the code is proved
 // equal to them, and nothing is assumed.
+#![tactic(auto)]
+
 mod compression;
 mod digest;
 mod message;

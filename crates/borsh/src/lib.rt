@@ -5,6 +5,8 @@
 // finds. A reader (`src/reader.rt`) holds the bytes and its place in them and may stand anywhere: what
 // does not fit is answered and never read. A decoder calls the functions over a slice and a `Cursor`,
 // which make a reader each. A writer's caller has made room. Proved, and nothing is assumed.
+#![tactic(auto)]
+
 mod reader;
 
 ghost use Rattle.std.specs.Prelude.{◌≡◌, ◌+◌, ◌≤◌, ◌<◌, ◌^◌, leb, length};

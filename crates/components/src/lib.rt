@@ -2,6 +2,8 @@
 // which file an offset lies in, a file's bytes after a write, marks and removal, epochs, the rule
 // for slots, bounds in entries. Each is small and computes; document 01's examples 3 and 6 to 9 are
 // rows over them (`examples`). Proved, and nothing is assumed.
+#![tactic(auto)]
+
 mod bounds;
 mod pieces;
 mod slots;

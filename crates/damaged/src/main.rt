@@ -1,6 +1,8 @@
 // Damaged memory, shown to the layout rules: one word of a sound area is changed, the verdict is
 // printed, and the word is put back. Then `format` is asked for what it refuses. At the end the areas
 // are compared with what they were.
+#![tactic(auto)]
+
 ghost use Rattle.std.specs.Prelude.{◌+◌, ◌≤◌};
 
 use areas::Formatted;

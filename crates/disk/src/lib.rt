@@ -5,6 +5,8 @@
 // `specs/Meaning.antt` says what a disk's bytes mean, and `specs/MeaningLaws.antt` what each write
 // does to that; `specs/SoundLaws.antt`: a sound area stays sound. The functions are called on areas that keep the layout rule
 // (`layout::is_sound_disk`); `format` makes one of any bytes. Proved, and nothing is assumed.
+#![tactic(auto)]
+
 mod directories;
 mod files;
 mod formatting;

@@ -4,6 +4,8 @@
 //
 // Memory is fixed. The disk has 8 slots, so 35,616 bytes, and a session 38,728. A line is kept up to
 // its 8,500th byte, and of a longer one only that it is too long.
+#![tactic(auto)]
+
 ghost use Rattle.std.specs.Prelude.{◌≤◌, length};
 
 use libc::{STDIN_FILENO, STDOUT_FILENO};

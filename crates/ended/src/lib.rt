@@ -4,3 +4,4 @@
 // `commit` of an append: `specs/CommitAppends.antt`, over `Turns`, `Flushes`, `Ripens`, `AppendFiles` and `AppendOrder`; of a truncate: `CommitCuts`, over `Ends`, `CutRows`
 // and `CutLeaves`; that it is served: `Commitable`. `drop_transaction` of a reader or a truncate: `Closes` and `CloseStarts`; of an append: `Drops`, over `Ends`, `DropRows`
 // and `DropLeaves`. `EndProper`: both keep the names.
+#![tactic(auto)]

@@ -2,6 +2,8 @@
 //
 // `specs/` says for each call, on every input, what it answers and what the areas then hold. Proved,
 // and nothing is assumed.
+#![tactic(auto)]
+
 mod checking;
 mod committing;
 mod dropping;

@@ -3,6 +3,8 @@
 //
 // `specs/` says for each call, on every input, what it answers and what the buffer, and the session,
 // then hold. Proved, and nothing is assumed.
+#![tactic(auto)]
+
 mod existing;
 mod popping;
 mod reads;

@@ -1,5 +1,7 @@
 // What a metadata file says: reads one from standard input and prints its epoch and its tapes, or
 // that nothing in it counts, or that its list can't be read.
+#![tactic(auto)]
+
 use libc::{STDIN_FILENO, STDOUT_FILENO};
 use metadata::{TapeList, TapeMetadata};
 

@@ -6,6 +6,8 @@
 // The rules are `sound` and `begun` of `specs/Disk.antt` and `specs/Session.antt`; beside each stands
 // the same as facts, which is what the crates above ask for. A table of names stands in both areas
 // and is written and searched here, once. Proved, and nothing is assumed.
+#![tactic(auto)]
+
 mod disk_area;
 mod names;
 mod session_area;

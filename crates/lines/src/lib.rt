@@ -3,6 +3,8 @@
 //
 // Each contract is an equation with a definition of `specs/`; `specs/Worked.antt` has document 01's
 // worked example. Proved, and nothing is assumed.
+#![tactic(auto)]
+
 mod calls;
 mod hexadecimal;
 mod number;

@@ -5,6 +5,8 @@
 // has the theorems: what was written is read back, a list that decodes encodes to the same bytes.
 // No public function has a `requires`: a list that may not be stored, a short buffer and damaged
 // bytes are answers. Proved, and nothing is assumed.
+#![tactic(auto)]
+
 mod choice;
 mod decode;
 mod encode;

@@ -5,6 +5,8 @@
 // Each contract is an equation with a definition of `specs/`: `num_at` for what is read, `put` for
 // what is written (a number, a copy and a fill are each a `put`), `same_bytes` and `comes_before` for
 // comparisons. Proved, and nothing is assumed. The callers keep each place inside its slice.
+#![tactic(auto)]
+
 ghost use Rattle.std.specs.Prelude.{◌≡◌, ◌+◌, ◌-◌, ◌≤◌, ◌<◌, min, max, length, replicate};
 ghost use Rattle.octets.specs.Bytes.{put};
 ghost use Rattle.octets.specs.Number.{num_at, put_num};

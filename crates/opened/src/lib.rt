@@ -4,3 +4,4 @@
 // `specs/Opens.antt` has the laws of the call, over `OpensServed` (what a served open has found and done), `OpensRows`, `OpensPlaces` and `OpensFolders` (the rows, the
 // places and the directories then), `OpensOrder` and `OpensSeen`. `OpenRooms` and `OpenProper`: it keeps the room and the names. `Reopens`: of areas in order a `store`, an
 // append behind it and the opening of a listed tape are served.
+#![tactic(auto)]

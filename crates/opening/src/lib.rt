@@ -2,6 +2,8 @@
 //
 // `specs/` says, on every input, what it answers and what the areas then hold. Proved, and nothing is
 // assumed.
+#![tactic(auto)]
+
 mod calls;
 mod directory;
 mod names_left;

@@ -4,3 +4,4 @@
 // The proof: `Standing` is what holds of the areas and of what is told of every name, `Steps` that every call keeps it, `Runs` that every run does; `Always` takes any
 // further law of running sessions through all runs (`Rooms`, `Proper` and `FileSizes`, which are together `Furnished`; `Wholes`), `StaysOpen` and `Since` what some calls
 // leave. Each statement has its file; `Premises` shows that there are runs.
+#![tactic(auto)]

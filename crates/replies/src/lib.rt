@@ -3,6 +3,8 @@
 //
 // `specs/` says for every line what its reply is and what the areas then hold. Proved, and nothing is
 // assumed.
+#![tactic(auto)]
+
 mod calls;
 mod reads;
 mod replying;

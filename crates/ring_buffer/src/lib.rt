@@ -6,6 +6,8 @@
 // keeps and what it overwrites, and where each byte of the tape stands after it. A ring is `Sound`
 // with its bytes if it lies inside them and holds no more than its capacity; the layout rule of the
 // session checks that. Proved, and nothing is assumed.
+#![tactic(auto)]
+
 mod bookkeeping;
 mod bytes;
 mod lent;

@@ -5,6 +5,8 @@
 //
 // `specs/` says what each function answers and what both areas then hold. Nothing is refused here: the
 // calls above decide before the first byte is written. Proved, and nothing is assumed.
+#![tactic(auto)]
+
 mod reading;
 mod removal;
 mod room;

@@ -4,3 +4,4 @@
 // `shift_start`, `truncate_tape`, `drop_entries`, `pop_entry` in `Stages` and `Cuts`; `append_entries` in `Puts`; reads in `Reads`; `store` in `Restarts`, `format` in
 // `Formats`, every call without a session in `Unbegun`. That they keep what else is kept: `StageStarts`, `Rooms` and `PutRooms`, `ProperLaws` and `ProperStarts`. `open` is
 // in the crate `opened`, `commit` and `drop_transaction` are in `ended`. The other files have what these laws share: rows, places, handles, lists.
+#![tactic(auto)]

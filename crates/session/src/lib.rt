@@ -7,6 +7,8 @@
 // row that is put is in range. The functions are called on areas that are long enough, those that
 // look at names on areas that keep the rule (`layout::is_begun_session`). Proved, and nothing is
 // assumed.
+#![tactic(auto)]
+
 mod head;
 mod names;
 mod rings;

@@ -5,6 +5,8 @@
 //
 // `specs/` says for each call, on every input, what it answers and what the session then holds. Proved,
 // and nothing is assumed.
+#![tactic(auto)]
+
 mod cutting;
 mod seeing;
 mod shifting;

@@ -5,6 +5,8 @@
 //
 // Each contract is that of the call below it, in numbers (`specs/Numbers.antt`). Proved, and nothing is
 // assumed.
+#![tactic(auto)]
+
 mod begins;
 mod ends;
 mod numbers;

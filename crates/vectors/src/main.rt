@@ -1,6 +1,8 @@
 // Published BLAKE2b vectors, run: RFC 7693 appendix A, its self-test of appendix E, and digests of
 // 32 bytes around the ends of a block and at the longest record. The file `stdout` beside this has
 // what they must be: the RFC's own two values, and the rest from Python's hashlib.
+#![tactic(auto)]
+
 ghost use Rattle.std.specs.Prelude.{◌≡◌, ◌+◌, ◌*◌, ◌≤◌, length};
 
 use blake2b::Hashed;
