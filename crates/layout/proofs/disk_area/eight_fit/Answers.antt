@@ -1,0 +1,25 @@
+use Rattle.std.proofs.Common.{◌≡◌, sym, ◌∙◌, ◌+◌, ◌-◌, ◌<◌, add-zero, arith}
+use Rattle.octets.specs.First.{all-hit, all-miss, all_none}
+use Rattle.layout.specs.Disk.{entry_fits}
+use Rattle.layout.proofs.disk_area.eight_fit.Goals as goal
+
+pub loop-i-init : goal.loop-i-init
+loop-i-init c =
+    let slot = c.args.slot in
+    let e : slot + 8 - slot ≡ 8 = omega arith in
+    (omega arith, rw (add-zero, e))
+
+pub loop-i-preserved : goal.loop-i-preserved
+loop-i-preserved c =
+    let low : c.args.slot + c.loop-i.i < c.args.slot + 8 = omega arith in
+    let e : c.args.slot + (c.loop-i.i + 1) ≡ c.args.slot + c.loop-i.i + 1 = omega arith in
+    (omega arith, rw e (sym (all-hit (entry_fits c.args.disk.now) (c.args.slot + 8) (c.args.slot + c.loop-i.i) low (sym c.entry_fits.ensures ∙ c.if-entry_fits.true)) ∙ c.loop-i.invariant.1))
+
+pub returns-else-entry_fits : goal.returns-else-entry_fits
+returns-else-entry_fits c =
+    let low : c.args.slot + c.loop-i.i < c.args.slot + 8 = omega arith in
+    sym (all-miss (entry_fits c.args.disk.now) (c.args.slot + 8) (c.args.slot + c.loop-i.i) low (sym c.entry_fits.ensures ∙ c.if-entry_fits.false)) ∙ c.loop-i.invariant.1
+
+pub returns : goal.returns
+returns c =
+    sym (all_none (entry_fits c.args.disk.now) (c.args.slot + 8) (c.args.slot + c.loop-i.i) (omega arith)) ∙ c.loop-i.invariant.1

@@ -1,0 +1,11 @@
+-- `eights_fit` answers `all` of `entry_fits`. The loop's invariant: testing the slots that are left is testing all. Assumes nothing.
+use Rattle.std.proofs.Common.{◌≡◌, ◌-◌, ◌≤◌}
+use Rattle.octets.specs.First.{all}
+use Rattle.layout.specs.Disk.{entry_fits}
+use Rattle.layout.proofs.disk_area.eights_fit.Given as goal
+
+abbrev pub invariant-loop-i : goal.invariant-loop-i
+invariant-loop-i l = (l.i ≤ l.to) × (all (entry_fits l.disk) (l.to - l.i) l.i ≡ all (entry_fits l.disk) (l.to - l.from) l.from)
+
+abbrev pub decreases-loop-i : goal.decreases-loop-i
+decreases-loop-i l = l.to - l.i
