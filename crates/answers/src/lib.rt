@@ -7,7 +7,7 @@ ghost use Rattle.std.specs.Prelude.{◌≡◌};
 ghost use Rattle.answers.specs.Answers.{refusal_number, refusal_value, code_of, value_of, entry_code_of, entry_value_of};
 
 // The reasons, in the order of their numbers.
-#[derive(Drop)]
+#[derive(Clone, Copy)]
 pub enum Refusal {
     // 1: an area is too small or breaks its layout rule, or no session was begun.
     Unusable,
@@ -47,7 +47,7 @@ pub enum Refusal {
     TooLarge,
 }
 
-#[derive(Drop)]
+#[derive(Clone, Copy)]
 pub enum Answer {
     Done(u64),
     Refused(Refusal),
@@ -124,7 +124,7 @@ pub fn value(answer: Answer) -> u64
 }
 
 // What a call for one entry answers.
-#[derive(Drop)]
+#[derive(Clone, Copy)]
 pub enum OneEntry {
     // The entry of this index stands at the buffer's front.
     Entry(u64),

@@ -9,7 +9,7 @@ ghost use Rattle.areas.specs.Format.{format_step, outcome};
 
 use layout::{Disk, Session};
 
-#[derive(Drop)]
+#[derive(Clone, Copy)]
 pub enum Formatted {
     Done,
     // The slot count is not 1 to 64.

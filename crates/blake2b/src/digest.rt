@@ -9,7 +9,7 @@ use crate::message::{block_at, key_room};
 use crate::mixing::xor;
 
 // What became of a request for a digest. Whatever is not `Done` has left the buffer as it was.
-#[derive(Drop)]
+#[derive(Clone, Copy)]
 pub enum Hashed {
     Done,
     // A digest has 1 to 64 bytes.

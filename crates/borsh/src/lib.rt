@@ -17,13 +17,13 @@ ghost use Rattle.borsh.specs.Taking.{cursor, take_number, take_array, take_vec};
 use reader::{read_array32, read_bytes, read_u32, read_u64, reader_at};
 
 // A place in the bytes that are read or written.
-#[derive(Drop)]
+#[derive(Clone, Copy)]
 pub struct Cursor {
     pub at: usize,
 }
 
 // What taking a number finds.
-#[derive(Drop)]
+#[derive(Clone, Copy)]
 pub enum TakenNumber {
     // The number, and the place behind it.
     Number(u64, Cursor),
@@ -31,7 +31,7 @@ pub enum TakenNumber {
 }
 
 // What taking bytes finds.
-#[derive(Drop)]
+#[derive(Clone, Copy)]
 pub enum TakenBytes {
     // The bytes are those from `start` on, `len` of them; `next` is the place behind them.
     Bytes {

@@ -7,7 +7,7 @@ ghost use Rattle.borsh.specs.Taking.{take_number, take_array, take_vec};
 
 use crate::{TakenBytes, TakenNumber, array32_from, u32_from, u64_from, vec_from};
 
-#[derive(Drop)]
+#[derive(Clone, Copy)]
 pub struct Reader<'a> {
     pub src: &'a [u8],
     // May lie behind the end: nothing is found there.

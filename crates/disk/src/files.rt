@@ -8,7 +8,7 @@ use layout::Disk;
 use octets::Found;
 
 // A slot's row.
-#[derive(Drop)]
+#[derive(Clone, Copy)]
 pub struct Entry {
     // The place of the directory that the file is in, plus 1; 0 if the slot is free.
     pub owner: usize,

@@ -8,7 +8,7 @@ use crate::names::names_fit;
 
 // The offsets and limits of the disk's area. The type carries these constants; its field is the one
 // thing that differs between disks.
-#[derive(Drop)]
+#[derive(Clone, Copy)]
 pub struct Disk {
     pub slots: usize,
 }

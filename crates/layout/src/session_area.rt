@@ -8,7 +8,7 @@ use crate::names::names_fit;
 
 // The offsets and limits of the session's area. The type carries these constants; its field is how
 // long an area is.
-#[derive(Drop)]
+#[derive(Clone, Copy)]
 pub struct Session {
     pub bytes: usize,
 }

@@ -10,7 +10,7 @@ use crate::number::{Parsed, parse_number};
 use crate::parts::{field, field_count};
 use crate::words::{Word, word_of};
 
-#[derive(Drop)]
+#[derive(Clone, Copy)]
 pub enum Call {
     Format,
     Store,

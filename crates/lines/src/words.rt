@@ -2,7 +2,7 @@
 ghost use Rattle.std.specs.Prelude.{◌≡◌};
 ghost use Rattle.lines.specs.Words.{word_of, later_word};
 
-#[derive(Drop)]
+#[derive(Clone, Copy)]
 pub enum Word {
     Format,
     Store,

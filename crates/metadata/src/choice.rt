@@ -8,7 +8,7 @@ use crate::decode::{Decoded, decode_list};
 use crate::list::TapeList;
 use crate::record::{Reading, read_record};
 
-#[derive(Drop)]
+#[derive(Clone, Copy)]
 pub enum Side {
     Left,
     Right,

@@ -11,14 +11,14 @@ use crate::name::is_name;
 use borsh::{Cursor, TakenBytes, TakenNumber, take_u32, take_u64, take_vec};
 
 // A list that was read, or that it can't be read; then the list is the empty one.
-#[derive(Drop)]
+#[derive(Clone, Copy)]
 pub struct Decoded {
     pub readable: bool,
     pub list: TapeList,
 }
 
 // What stands at a place of the list's bytes.
-#[derive(Drop)]
+#[derive(Clone, Copy)]
 enum TakenTape {
     // A tape: its name stands at `place` and has so many letters; `next` is the place behind it.
     Found {

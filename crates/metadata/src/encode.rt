@@ -12,7 +12,7 @@ use crate::name::is_name;
 use borsh::{Cursor, put_u32, put_u64, put_vec};
 
 // What became of a request to write.
-#[derive(Drop)]
+#[derive(Clone, Copy)]
 pub enum Encoded {
     // So many bytes stand at the buffer's front.
     Written(usize),

@@ -4,7 +4,7 @@ ghost use Rattle.metadata.specs.Struct.{blank, list_of};
 
 // One tape of the list. What stands in `name` behind the letters is not looked at; this crate makes
 // it zeros.
-#[derive(Drop)]
+#[derive(Clone, Copy)]
 pub struct TapeMetadata {
     // How many bytes of `name` are the name.
     pub letters: usize,
@@ -15,7 +15,7 @@ pub struct TapeMetadata {
 
 // The first `count` of the tapes, by name in byte order. What stands behind them is not looked at;
 // this crate makes it blank. A list that breaks the rule is `NotStorable`.
-#[derive(Drop)]
+#[derive(Clone, Copy)]
 pub struct TapeList {
     pub count: usize,
     pub tapes: [TapeMetadata; TapeList::MOST_NAMES],

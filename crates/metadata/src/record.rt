@@ -14,7 +14,7 @@ use borsh::{
 };
 
 // What stands in a metadata file.
-#[derive(Drop)]
+#[derive(Clone, Copy)]
 pub enum Reading {
     // A record of this epoch, whose list has so many bytes.
     Whole { epoch: u64, list_len: usize },

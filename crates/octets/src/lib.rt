@@ -13,7 +13,7 @@ ghost use Rattle.octets.specs.Number.{num_at, put_num};
 ghost use Rattle.octets.specs.Compare.{same_bytes, comes_before};
 
 // What a search finds.
-#[derive(Drop)]
+#[derive(Clone, Copy)]
 pub enum Found {
     At(usize),
     Nothing,

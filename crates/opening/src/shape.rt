@@ -7,7 +7,7 @@ use layout::Session;
 use session::View;
 
 // A tape with the sizes that it is opened with.
-#[derive(Drop)]
+#[derive(Clone, Copy)]
 pub struct Opening {
     pub entry: u64,
     pub file_size: u64,

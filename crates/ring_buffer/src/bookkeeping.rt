@@ -6,7 +6,7 @@ ghost use Rattle.ring_buffer.specs.Ring.{fresh, reset_to, pushed, popped, trunca
 use crate::lent;
 use std::num::wrapping_add_u64;
 
-#[derive(Drop)]
+#[derive(Clone, Copy)]
 pub struct RingBuffer {
     // How many bytes the ring has room for.
     pub capacity: usize,

@@ -7,7 +7,7 @@ ghost use Rattle.rolling_tape.specs.Tracking.{is_tracked, is_ripe, marked, clear
 use session::Tracking;
 
 // A change of what is tracked, by the files' numbers.
-#[derive(Drop)]
+#[derive(Clone, Copy)]
 pub enum Change {
     // Making a file untracks those with higher numbers.
     UntrackAbove(u64),

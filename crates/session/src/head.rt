@@ -7,7 +7,7 @@ use crate::words::{flag_word, is_set};
 use layout::Session;
 use metadata::Side;
 
-#[derive(Drop)]
+#[derive(Clone, Copy)]
 pub struct Head {
     // That of the last commit.
     pub epoch: u64,

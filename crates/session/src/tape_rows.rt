@@ -9,7 +9,7 @@ use layout::Session;
 use octets::Found;
 use ring_buffer::RingBuffer;
 
-#[derive(Drop)]
+#[derive(Clone, Copy)]
 pub struct Handle {
     // 0 if the tape is not open in this session.
     pub number: u64,
@@ -18,7 +18,7 @@ pub struct Handle {
     pub file_size: u64,
 }
 
-#[derive(Drop)]
+#[derive(Clone, Copy)]
 pub struct Staged {
     // Whether the open transaction touched the tape; else the other fields mean nothing.
     pub touched: bool,

@@ -5,7 +5,7 @@ ghost use Rattle.session.specs.Rows.{tracking_for, tracking_code, tracking_epoch
 
 use layout::Session;
 
-#[derive(Drop)]
+#[derive(Clone, Copy)]
 pub enum Tracking {
     Untracked,
     Tracked,

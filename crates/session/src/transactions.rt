@@ -7,7 +7,7 @@ ghost use Rattle.session.specs.Rows.{kind_for, kind_code, transaction_of, put_tr
 use layout::Session;
 use octets::Found;
 
-#[derive(Drop)]
+#[derive(Clone, Copy)]
 pub enum Kind {
     Closed,
     Reader,
@@ -15,7 +15,7 @@ pub enum Kind {
     Truncate,
 }
 
-#[derive(Drop)]
+#[derive(Clone, Copy)]
 pub struct Transaction {
     pub kind: Kind,
     pub number: u64,

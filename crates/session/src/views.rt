@@ -8,7 +8,7 @@ ghost use Rattle.session.specs.Rows.{view_of, put_view, copy_view};
 use crate::words::{flag_word, is_set};
 use layout::Session;
 
-#[derive(Drop)]
+#[derive(Clone, Copy)]
 pub struct View {
     pub listed: bool,
     pub len: u64,

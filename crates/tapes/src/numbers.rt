@@ -6,7 +6,7 @@ use answers::{Answer, OneEntry};
 
 // 0 and the value, or the refusal's number and 0; an append that waits has the number of readers.
 #[repr(C)]
-#[derive(Drop)]
+#[derive(Clone, Copy)]
 pub struct Reply {
     pub code: u64,
     pub value: u64,

@@ -1,0 +1,7 @@
+-- `last` gives `last_held`: the bytes before the last n are passed over. Assumes nothing.
+use Rattle.ring_buffer.specs.Ring.{last_held}
+use Rattle.ring_buffer.proofs.bookkeeping.RingBuffer.last.Goals as goal
+
+pub returns : goal.returns
+unfolding last_held
+returns c = rw c.wrapping_add_u64.ensures.value
