@@ -24,7 +24,7 @@ use Rattle.ending.specs.Dropping.{drop_transaction_call}
 pub data Call : Type 0 where
   format : (slots : ℕ) → Call
   store append reader truncate : Call
-  open_tape : (transaction : ℕ) → (name : List ℕ) → (entry file_size_of cache start : ℕ) → Call
+  open_tape : (transaction : ℕ) → (name : List ℕ) → (entry file_size cache start : ℕ) → Call
   append_entries : (transaction handle : ℕ) → (bs : List ℕ) → Call
   shift_start truncate_tape drop_entries : (transaction handle n : ℕ) → Call
   pop_entry : (transaction handle : ℕ) → (buffer : List ℕ) → Call

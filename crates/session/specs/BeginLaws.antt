@@ -224,8 +224,8 @@ begun-listed_from : (s : List ℕ) (p : ℕ) (ts : List Tape) → Begun s → p 
 unfolding listed_from listed
 begun-listed_from s p [] ok-before few short = ok-before
 begun-listed_from s p (t ∷ ts) ok-before few short =
-    begun-listed_from _ (p + 1) ts
-    (begun-put_view _ (begun-put_name s ok-before p t.name (omega arith) (short 0 t refl)) 17 p (record { listed = true; len = t.len; start = t.start }) (omega arith) (omega arith))
+    begun-listed_from (put_view (put_name s names_at p t.name) 17 p (record { listed = true; len = t.len; start = t.start })) (p + 1) ts
+    (begun-put_view (put_name s names_at p t.name) (begun-put_name s ok-before p t.name (omega arith) (short 0 t refl)) 17 p (record { listed = true; len = t.len; start = t.start }) (omega arith) (omega arith))
     (omega arith) (λ i u q. short (suc i) u q)
 
 -- ---- a new session
