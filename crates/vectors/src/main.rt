@@ -3,10 +3,10 @@
 // what they must be: the RFC's own two values, and the rest from Python's hashlib.
 #![tactic(auto)]
 
-ghost use Rattle.std.specs.Prelude.{◌≡◌, ◌+◌, ◌*◌, ◌≤◌, length};
+ghost use Rattle.std.specs.Prelude.{◌≡◌, ◌+◌, ◌*◌, ◌≤◌, length, IfOk};
 
 use blake2b::Hashed;
-use libc::STDOUT_FILENO;
+use std::io;
 
 // Appendix E's selftest_seq: a sequence of bytes from a seed, by Fibonacci's rule modulo 2^32. A
 // shorter sequence begins a longer one.
@@ -31,98 +31,92 @@ fn wide(x: u8) -> u64 {
 }
 
 // A digest in hex and a line's end.
-fn print_digest(digest: &[u8]) {
-    let mut i = 0;
-    while i < digest.len() {
-        io::print_hex(STDOUT_FILENO, wide(digest[i]), 2);
-        i += 1;
+fn print_digest(rt: &impl Print, digest: &[u8]) -> io::Result<()> {
+    for byte in digest {
+        print!(rt; "{:02x}", wide(*byte))?;
     }
-    io::write_all(STDOUT_FILENO, b"\n");
+    println!(rt)
 }
 
 // Hashes, and prints what it was and the digest; a refusal prints itself.
-fn show(digest: &mut [u8], key: &[u8], message: &[u8]) {
+fn show(rt: &impl Print, digest: &mut [u8], key: &[u8], message: &[u8]) -> io::Result<()> {
     let nn = digest.len();
-    io::print_decimal(STDOUT_FILENO, nn as u64);
-    io::write_all(STDOUT_FILENO, b" ");
-    io::print_decimal(STDOUT_FILENO, key.len() as u64);
-    io::write_all(STDOUT_FILENO, b" ");
-    io::print_decimal(STDOUT_FILENO, message.len() as u64);
-    io::write_all(STDOUT_FILENO, b" ");
+    print!(rt; "{nn} {} {} ", key.len(), message.len())?;
     match blake2b::blake2b(digest, nn, key, message) {
-        Hashed::Done => print_digest(digest),
-        _ => {
-            io::write_all(STDOUT_FILENO, b"refused\n");
-        }
+        Hashed::Done => print_digest(rt, digest),
+        _ => println!(rt; "refused"),
     }
 }
 
 // The digests of nn bytes of one message of appendix E, unkeyed and keyed, into `all` from at on.
 // Answers the place behind them.
-fn one_message(all: &mut [u8], at: usize, nn: usize, n: usize) -> usize
-    requires { (at + 2 * nn ≤ length all.old) × ((nn ≤ 64) × (n ≤ 1024)) }
-    ensures { result ≡ at + 2 * nn }
+fn one_message(rt: &impl Print, all: &mut [u8], at: usize, nn: usize, n: usize) -> io::Result<usize>
+    requires room { at + 2 * nn ≤ length all.old }
+    requires digest { nn ≤ 64 }
+    requires message { n ≤ 1024 }
+    ensures { IfOk result (λ next. next ≡ at + 2 * nn) }
 {
     let input = sequence(n as u64);
     let key = sequence(nn as u64);
     let middle = at + nn;
     let end = middle + nn;
-    show(&mut all[at..middle], b"", &input[..n]);
-    show(&mut all[middle..end], &key[..nn], &input[..n]);
-    end
+    show(rt, &mut all[at..middle], b"", &input[..n])?;
+    show(rt, &mut all[middle..end], &key[..nn], &input[..n])?;
+    Ok(end)
 }
 
 // The digests of one length, in appendix E's order of messages.
-fn one_length(all: &mut [u8], at: usize, nn: usize) -> usize
-    requires { (at + 12 * nn ≤ length all.old) × (nn ≤ 64) }
-    ensures { result ≡ at + 12 * nn }
+fn one_length(rt: &impl Print, all: &mut [u8], at: usize, nn: usize) -> io::Result<usize>
+    requires room { at + 12 * nn ≤ length all.old }
+    requires digest { nn ≤ 64 }
+    ensures { IfOk result (λ next. next ≡ at + 12 * nn) }
 {
-    let at = one_message(all, at, nn, 0);
-    let at = one_message(all, at, nn, 3);
-    let at = one_message(all, at, nn, 128);
-    let at = one_message(all, at, nn, 129);
-    let at = one_message(all, at, nn, 255);
-    one_message(all, at, nn, 1024)
+    let at = one_message(rt, all, at, nn, 0)?;
+    let at = one_message(rt, all, at, nn, 3)?;
+    let at = one_message(rt, all, at, nn, 128)?;
+    let at = one_message(rt, all, at, nn, 129)?;
+    let at = one_message(rt, all, at, nn, 255)?;
+    one_message(rt, all, at, nn, 1024)
 }
 
-fn appendix_e() {
+fn appendix_e(rt: &impl Print) -> io::Result<()> {
     let mut all = [0u8; 1968];
-    let at = one_length(&mut all, 0, 20);
-    let at = one_length(&mut all, at, 32);
-    let at = one_length(&mut all, at, 48);
-    one_length(&mut all, at, 64);
+    let at = one_length(rt, &mut all, 0, 20)?;
+    let at = one_length(rt, &mut all, at, 32)?;
+    let at = one_length(rt, &mut all, at, 48)?;
+    one_length(rt, &mut all, at, 64)?;
     let mut grand = [0u8; 32];
-    io::write_all(STDOUT_FILENO, b"the hash of these hashes: ");
-    show(&mut grand, b"", &all);
+    print!(rt; "the hash of these hashes: ")?;
+    show(rt, &mut grand, b"", &all)
 }
 
 // The digest of 32 bytes of n bytes of appendix E's sequence.
-fn of_length(n: usize)
+fn of_length(rt: &impl Print, n: usize) -> io::Result<()>
     requires { n ≤ 1024 }
 {
     let input = sequence(n as u64);
     let mut digest = [0u8; 32];
-    show(&mut digest, b"", &input[..n]);
+    show(rt, &mut digest, b"", &input[..n])
 }
 
-fn around_blocks() {
-    of_length(0);
-    of_length(1);
-    of_length(127);
-    of_length(128);
-    of_length(129);
-    of_length(255);
-    of_length(256);
-    of_length(374);
-    of_length(1024);
+fn around_blocks(rt: &impl Print) -> io::Result<()> {
+    of_length(rt, 0)?;
+    of_length(rt, 1)?;
+    of_length(rt, 127)?;
+    of_length(rt, 128)?;
+    of_length(rt, 129)?;
+    of_length(rt, 255)?;
+    of_length(rt, 256)?;
+    of_length(rt, 374)?;
+    of_length(rt, 1024)
 }
 
-fn main() {
+fn main(rt: HostRuntime) -> io::Result<()> {
     let mut digest = [0u8; 64];
-    io::write_all(STDOUT_FILENO, b"appendix A\n");
-    show(&mut digest, b"", b"abc");
-    io::write_all(STDOUT_FILENO, b"appendix E\n");
-    appendix_e();
-    io::write_all(STDOUT_FILENO, b"around blocks\n");
-    around_blocks();
+    println!(rt; "appendix A")?;
+    show(&rt, &mut digest, b"", b"abc")?;
+    println!(rt; "appendix E")?;
+    appendix_e(&rt)?;
+    println!(rt; "around blocks")?;
+    around_blocks(&rt)
 }

@@ -1,0 +1,9 @@
+-- `get_ring` is the record of the words that it reads. Assumes nothing.
+use Rattle.std.proofs.Common.{add_assoc}
+use Rattle.session.specs.Rows.{ring_of}
+use Rattle.session.proofs.tape_rows.get_ring.Goals as goal
+
+pub returns : goal.returns
+unfolding ring_of
+returns c =
+    rw (c.u64_at-first.ensures, c.u64_at-len.ensures, c.u64_at-start.ensures, c.u64_at-capacity.ensures) (simp add_assoc)

@@ -1,0 +1,8 @@
+-- `get_view` is the record of the words that it reads. Assumes nothing.
+use Rattle.session.specs.Rows.{view_of}
+use Rattle.session.proofs.views.get_view.Goals as goal
+
+pub returns : goal.returns
+unfolding view_of
+returns c =
+    rw (c.is_set-listed.ensures, c.u64_at-start.ensures, c.u64_at-len.ensures, c.u64_at.ensures)
