@@ -13,7 +13,7 @@ returns c =
     let s = c.args.session.now in
     let at = ring_at c.args.tape in
     let ring = c.args.ring in
-    let part = c.push_bytes.new.1.0 in
+    let part = c.push_bytes.new.bytes in
     let size : at + 4096 - at ≡ 4096 = omega arith in
     let new : part ≡ around ring.capacity (take 4096 (drop at s)) (ring.start + ring.len) c.args.src.now
     = c.push_bytes.ensures ∙ ap (λ (k : ℕ). around ring.capacity (take k (drop at s)) (ring.start + ring.len) c.args.src.now) size in

@@ -11,7 +11,7 @@ loop-i-init c = record { within = omega arith; long = refl; rest = refl }
 pub loop-i-preserved : goal.loop-i-preserved
 loop-i-preserved c =
     let list = c.args.list in
-    let room = eight list.tapes (search rules) in
+    let room : length list.tapes ≡ 8 = search rules in
     let same : length c.list_tape.new.session ≡ length c.loop-i.session = search rules in
     record {
       within = omega arith;
@@ -25,7 +25,7 @@ pub returns : goal.returns
 unfolding begin_session
 returns c =
     let list = c.args.list in
-    let room = eight list.tapes (search rules) in
+    let room : length list.tapes ≡ 8 = search rules in
     let end : min list.count (length list.tapes) ≤ c.loop-i.i = omega arith in
     sym (listed-end list c.loop-i.session c.loop-i.i end)
     ∙ c.loop-i.invariant.rest
