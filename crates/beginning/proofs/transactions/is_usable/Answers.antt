@@ -1,0 +1,12 @@
+-- `is_usable` is `usable`: a bad disk decides, else the session does. Assumes nothing.
+use Rattle.std.proofs.Common.{sym, ◌∙◌}
+use Rattle.beginning.specs.Ways.{disk-unusable, by-session}
+use Rattle.beginning.proofs.transactions.is_usable.Goals as goal
+
+pub returns-then-is_sound_disk : goal.returns-then-is_sound_disk
+returns-then-is_sound_disk c =
+    c.is_begun_session.ensures ∙ sym (by-session c.args.disk.now c.args.session.now (sym c.is_sound_disk.ensures ∙ c.if-is_sound_disk.true))
+
+pub returns : goal.returns
+returns c =
+    sym (disk-unusable c.args.disk.now c.args.session.now (sym c.is_sound_disk.ensures ∙ c.if-is_sound_disk.false))
