@@ -1,0 +1,8 @@
+-- `is_at` is `is_at`: the match is on what was found. Assumes nothing.
+use Rattle.std.proofs.Common.{sym, ap}
+use Rattle.opening.specs.NamesLeft.{is_at}
+use Rattle.opening.proofs.names_left.is_at.Goals as goal
+
+pub returns-in-At : goal.returns-in-At
+returns-in-At c =
+    sym (ap (is_at c.args.place) c.in-At.is)
