@@ -38,8 +38,7 @@ returns-in-Truncate c =
 pub returns-in-Open : goal.returns-in-Open
 unfolding made kept
 returns-in-Open c =
-    let «open» = c.before.«open» in
-    rw (c.in-Open.is, ← c.field.ensures) («open».ensures, refl)
+    rw (c.in-Open.is, ← c.field.ensures) (c.open.ensures, refl)
 
 pub returns-in-Put : goal.returns-in-Put
 unfolding made kept

@@ -1,11 +1,8 @@
 -- `replies::replying::reply`: what the line says decides, and each way out leaves the reply that the definition gives there; the arm of the rest is taken at
 -- every call but a read. Assumes nothing.
-use Rattle.std.proofs.Common.{◌≡◌, refl, sym, ap, ◌∙◌, true, List, [], ◌∷◌, ℕ, arith}
-use types.Run.{OneOf, miss}
-use denote.Enum.Declared.{tag_of}
+use Rattle.std.proofs.Common.{◌≡◌, refl, sym, ap, ◌∙◌, true, [], ℕ, arith}
 use Rattle.answers.specs.Answers.{code_of, value_of}
 use Rattle.answers.specs.Outcome.{outcome}
-use Rattle.lines.specs.contracts.calls.Call.{the_type}
 use Rattle.lines.specs.Calls.{call_of}
 use Rattle.lines.specs.declared.calls.Call.{Call}
 use Rattle.lines.specs.declared.calls.Call.TheVariants.{Format, Store, Append, Reader, Truncate, Open, Put, Shift, Cut, Read, Commit, Drop, Unreadable}
@@ -13,27 +10,24 @@ use Rattle.replies.specs.Replies.{made, kept}
 use Rattle.replies.specs.ReplyLaws.{reply-length, unreadable-length, asks, asks-short, read-disk, read-session, read_length, reply-unreadable, reply-read, reply-made}
 use Rattle.replies.proofs.replying.reply.Goals as goal
 
-abbrev rest : List ℕ
-rest = 0 ∷ 1 ∷ 2 ∷ 3 ∷ 4 ∷ 5 ∷ 6 ∷ 7 ∷ 8 ∷ 10 ∷ 11 ∷ []
-
-asked : (call : Call) → OneOf rest (tag_of the_type call) → asks call ≡ true
-asked Format k = refl
-asked Store k = refl
-asked Append k = refl
-asked Reader k = refl
-asked Truncate k = refl
-asked (Open t e f c start) k = refl
-asked (Put t h) k = refl
-asked (Shift t h i) k = refl
-asked (Cut t h n) k = refl
-asked (Read t h i n) k = absurd (miss rest 9 tt k)
-asked (Commit t) k = refl
-asked (Drop t) k = refl
-asked Unreadable k = absurd (miss rest 12 tt k)
+asked : (call : Call) → ((t h i n : ℕ) → call ≡ Read t h i n → ⊥) → (call ≡ Unreadable → ⊥) → asks call ≡ true
+asked Format k u = refl
+asked Store k u = refl
+asked Append k u = refl
+asked Reader k u = refl
+asked Truncate k u = refl
+asked (Open t e f c start) k u = refl
+asked (Put t h) k u = refl
+asked (Shift t h i) k u = refl
+asked (Cut t h n) k u = refl
+asked (Read t h i n) k u = absurd (k t h i n refl)
+asked (Commit t) k u = refl
+asked (Drop t) k u = refl
+asked Unreadable k u = absurd (u refl)
 
 pub make-answer-requires : goal.make-answer-requires
 make-answer-requires c =
-    let yes : asks (call_of c.args.line.now) ≡ true = ap asks (sym c.parse_line-call.ensures) ∙ asked c.parse_line-call.result c.in_default.in_default-own.keys3 in
+    let yes : asks (call_of c.args.line.now) ≡ true = ap asks (sym c.parse_line-call.ensures) ∙ asked c.parse_line-call.result c.in_default.not-Read c.in_default.not-Unreadable in
     (asks-short c.args.line.now yes, c.requires.0)
 
 pub returns-in-Unreadable : goal.returns-in-Unreadable
@@ -55,7 +49,7 @@ returns-in-Read c =
 
 pub returns-in_default : goal.returns-in_default
 returns-in_default c =
-    let yes : asks (call_of c.args.line.now) ≡ true = ap asks (sym c.parse_line-call.ensures) ∙ asked c.parse_line-call.result c.in_default.in_default-own.keys3 in
+    let yes : asks (call_of c.args.line.now) ≡ true = ap asks (sym c.parse_line-call.ensures) ∙ asked c.parse_line-call.result c.in_default.not-Read c.in_default.not-Unreadable in
     let done : made c.args.disk.now c.args.session.now c.args.line.now (call_of c.args.line.now) ≡ outcome c.make-answer.result c.make-answer.new.disk c.make-answer.new.session
     = rw (← c.parse_line-call.ensures) c.make-answer.ensures.0 in
     rw (reply-made c.args.disk.now c.args.session.now c.args.number c.args.line.now c.args.space.now c.make-answer.result c.make-answer.new.disk c.make-answer.new.session yes done)
