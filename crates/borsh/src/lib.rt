@@ -106,8 +106,7 @@ fn vec_from(s: &[u8], at: usize) -> TakenBytes
     }
 }
 
-// By a reader that stands at the cursor's place. The parameters are plain, so whoever calls these is
-// covered and needs no walk by hand.
+// By a reader that stands at the cursor's place.
 pub fn take_u32(s: &[u8], c: Cursor) -> TakenNumber
     ensures { result ≡ take_number 4 s.now c.at }
 {

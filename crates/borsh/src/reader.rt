@@ -1,7 +1,6 @@
 // A reader holds the bytes that are read and its place in them. What it finds there is what
-// `specs/Taking.antt` says. The borrow checker covers no function over a struct that holds a
-// reference, so each of these is proved by a walk of its code by hand. So each is thin: it takes the
-// reader apart and calls the covered function on the slice and the place.
+// `specs/Taking.antt` says. Each function is thin: it takes the reader apart and calls the one over the
+// slice and the place.
 ghost use Rattle.std.specs.Prelude.{◌≡◌};
 ghost use Rattle.borsh.specs.Taking.{take_number, take_array, take_vec};
 

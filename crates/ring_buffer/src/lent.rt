@@ -1,6 +1,5 @@
 // The ring's steps over a bookkeeping that is lent (document 01: it is "lent and updated, apart from
-// the bytes"). Each reads it, has a function by value compute the next one, and stores that back. The
-// functions by value are covered; those over a `&mut` are walked by hand in `proofs/`.
+// the bytes"). Each reads it, has a function by value compute the next one, and stores that back.
 ghost use Rattle.std.specs.Prelude.{◌≡◌, ◌-◌, ◌<◌, ◌≤◌};
 ghost use Rattle.ring_buffer.specs.Ring.{pushed, popped, truncated, prepared};
 

@@ -5,8 +5,8 @@ ghost use Rattle.tapes.specs.Numbers.{numbers, entry_numbers};
 use answers::{Answer, OneEntry};
 
 // 0 and the value, or the refusal's number and 0; an append that waits has the number of readers.
-#[repr(C)]
 #[derive(Clone, Copy)]
+#[repr(C)]
 pub struct Reply {
     pub code: u64,
     pub value: u64,
