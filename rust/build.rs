@@ -1,11 +1,11 @@
-//! Links the archive `libtapes.a`: from the folder that `TAPES_LIB` names, else from where `rt staticlib tapes` leaves it.
+//! Links the archive `libtapes.a`: from the folder that `TAPES_LIB` names, else from where `rt lib` in `crates/tapes` leaves it.
 
 use std::{env, path::PathBuf, process};
 
 fn main() {
     println!("cargo:rerun-if-env-changed=TAPES_LIB");
     // a relative folder is meant from this package's own, where cargo runs this program
-    let folder = env::var_os("TAPES_LIB").map_or_else(|| PathBuf::from("../target/staticlib"), PathBuf::from);
+    let folder = env::var_os("TAPES_LIB").map_or_else(|| PathBuf::from("../crates/tapes/out"), PathBuf::from);
 
     let target = |part: &str| env::var(format!("CARGO_CFG_TARGET_{part}")).unwrap_or_default();
     let (processor, system) = (target("ARCH"), target("OS"));
@@ -19,7 +19,7 @@ fn main() {
     let Ok(archive) = folder.join("libtapes.a").canonicalize() else {
         refuse(&format!(
             "there is no libtapes.a in {}.\n\
-             Run `rt staticlib tapes` at the repository's root, or name the folder that has it in TAPES_LIB.",
+             Run `rt lib` in crates/tapes, or name the folder that has it in TAPES_LIB.",
             folder.display()
         ));
     };
