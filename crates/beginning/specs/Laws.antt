@@ -1,10 +1,10 @@
 -- What later work builds on. The contracts leave nothing open; a refused call changes nothing; what a call makes of areas that keep their rules keeps them;
 -- and what a served call means. Assumes nothing.
 use Rattle.std.specs.Prelude.{◌≡◌, refl, ◌≢◌, true, false, ◌&&◌, List, ℕ, ◌+◌, ◌≤◌, ◌<◌, ◌^◌, ltb}
-use Rattle.std.proofs.Common.{sym, subst, ◌∙◌, true≢false, arith}
+use Rattle.std.proofs.Common.{sym, subst, ◌∙◌, arith}
 use Rattle.std.proofs.Math.Path.{ap}
 use Rattle.std.proofs.Math.ListN.{length}
-use Rattle.octets.specs.Cases.{decide, order, equal}
+use Rattle.octets.specs.Cases.{decide, equal}
 use Rattle.octets.specs.Number.{Bytes, num_at-lt}
 use Rattle.octets.specs.First.{count, count_same}
 use Rattle.octets.specs.declared.Found.{Found}
@@ -24,7 +24,7 @@ use Rattle.layout.specs.Session.{session_bytes, head_at, Begun, begun}
 use Rattle.layout.specs.SessionLaws.{begun→, →begun}
 use Rattle.session.specs.declared.head.Head.{Head}
 use Rattle.session.specs.declared.transactions.Kind.{Kind}
-use Rattle.session.specs.declared.transactions.Kind.TheVariants.{Reader, Append, Truncate}
+use Rattle.session.specs.declared.transactions.Kind.TheVariants.{Reader, Truncate}
 use Rattle.session.specs.declared.transactions.Transaction.{Transaction}
 use Rattle.session.specs.Rows.{head_of, copy_view, kind_code, free_reader, put_transaction}
 use Rattle.session.specs.RowLaws.{HeadFits, only-copy_view, only-put_transaction}
@@ -33,9 +33,9 @@ use Rattle.session.specs.MeaningLaws.{Ready, head_at_lem, transaction-at, ready-
 use Rattle.session.specs.KeepLaws.{begun-ready, begun-put_head, begun-copy_view, begun-put_transaction, bytes-put_head, bytes-copy_view, bytes-put_transaction}
 use Rattle.beginning.specs.Disks.{answered, format_call}
 use Rattle.beginning.specs.Transactions.{After, after, refused, usable, is_open_at, is_older, waiting_for, begun_at, begin_at}
-use Rattle.beginning.specs.Calls.{waits, append_call, truncate_call, reader_call}
+use Rattle.beginning.specs.Calls.{append_call, truncate_call, reader_call}
 use Rattle.beginning.specs.Sessions.{store_call}
-use Rattle.beginning.specs.Ways.{usable-begun, free-low, free-closed, numbers-out, begins-at, append-unusable, append-open, append-uncut, append-waits, append-alone, truncate-unusable, truncate-open, truncate-begins, reader-unusable, reader-full, reader-begins}
+use Rattle.beginning.specs.Ways.{usable-begun, free-low, free-closed, numbers-out, begins-at, truncate-unusable, truncate-open, truncate-begins, reader-unusable, reader-full, reader-begins}
 
 -- ---- the contracts leave nothing open
 
@@ -179,7 +179,7 @@ pub record MayBegin (d s : List ℕ) (t : ℕ) : Type 0 where
 abbrev pub begun_after : List ℕ → ℕ → Kind → After
 begun_after s t k = after (Done ((head_of s).last_transaction + 1)) (begun_at s t k)
 
-begin-cases : (P : After → Type 0) (s : List ℕ) (t : ℕ) (k : Kind) → ((why : Refusal) → P (refused why s))
+pub begin-cases : (P : After → Type 0) (s : List ℕ) (t : ℕ) (k : Kind) → ((why : Refusal) → P (refused why s))
     → ((head_of s).last_transaction ≢ 0xffff_ffff_ffff_ffff → P (begun_after s t k)) → P (begin_at s t k)
 begin-cases P s t k stays goes =
     equal (head_of s).last_transaction 0xffff_ffff_ffff_ffff
@@ -198,24 +198,6 @@ module _ (P : After → Type 0) (d s : List ℕ) (stays : (why : Refusal) → P 
       (begin-cases P s 16 Truncate stays (λ h. goes (record { areas = ok; place = omega arith; free = f; number = h })))))
       (λ bad. subst P (sym (truncate-unusable d s bad)) (stays Unusable))
 
-  -- an append begins where nobody is waited for
-  pub append_cases : (MayBegin d s 16 → ((head_of s).cut ≡ true → waits s ≡ 0) → P (begun_after s 16 Append)) → P (append_call d s)
-  append_cases goes =
-      let go : usable d s ≡ true → is_open_at s 16 ≡ false → ((head_of s).cut ≡ true → waits s ≡ 0) → P (begin_at s 16 Append)
-      = λ ok f alone. begin-cases P s 16 Append stays (λ h. goes (record { areas = ok; place = omega arith; free = f; number = h }) alone) in
-      decide (usable d s)
-      (λ ok.
-      decide (is_open_at s 16)
-      (λ o. subst P (sym (append-open d s ok o)) (stays WriterOpen))
-      (λ f.
-      decide (head_of s).cut
-      (λ cut.
-      order 0 (waits s)
-      (λ some. subst P (sym (append-waits d s ok f cut some)) (stays (Wait (waits s))))
-      (λ none. subst P (sym (append-alone d s ok f cut none)) (go ok f (λ q. omega arith))))
-      (λ uncut. subst P (sym (append-uncut d s ok f uncut)) (go ok f (λ q. absurd (true≢false (sym q ∙ uncut)))))))
-      (λ bad. subst P (sym (append-unusable d s bad)) (stays Unusable))
-
   -- a reader begins in the first free place
   pub reader-cases : ((t : ℕ) → MayBegin d s t → t < 16 → free_reader s ≡ At t → P (begun_after s t Reader)) → P (reader_call d s)
   reader-cases goes =
@@ -233,9 +215,6 @@ module _ (P : After → Type 0) (d s : List ℕ) (stays : (why : Refusal) → P 
 -- ---- a refused call changes nothing
 
 module _ (d s : List ℕ) where
-  pub append-refused : code_of (append_call d s).answer ≢ 0 → (append_call d s).session ≡ s
-  append-refused = append_cases (λ o. code_of o.answer ≢ 0 → o.session ≡ s) d s (λ why r. refl) (λ may alone r. absurd (r refl))
-
   pub truncate-refused : code_of (truncate_call d s).answer ≢ 0 → (truncate_call d s).session ≡ s
   truncate-refused = truncate-cases (λ o. code_of o.answer ≢ 0 → o.session ≡ s) d s (λ why r. refl) (λ may r. absurd (r refl))
 
@@ -245,11 +224,6 @@ module _ (d s : List ℕ) where
 -- ---- a session that keeps the rule keeps it, served or refused; and its bytes stay bytes
 
 module _ (d s : List ℕ) where
-  pub append-begun : begun s ≡ true → begun (append_call d s).session ≡ true
-  append-begun b =
-      append_cases (λ o. begun o.session ≡ true) d s (λ why. b)
-      (λ may alone. →begun _ (begun-begun_at s 16 Append (omega arith) (begun→ s b) (λ l. omega arith) (λ e q. omega arith)))
-
   pub truncate-begun : begun s ≡ true → begun (truncate_call d s).session ≡ true
   truncate-begun b =
       truncate-cases (λ o. begun o.session ≡ true) d s (λ why. b)
@@ -263,9 +237,6 @@ module _ (d s : List ℕ) where
   pub may-long : {t : ℕ} → MayBegin d s t → session_bytes ≤ length s
   may-long may = (usable-begun d s may.areas).long
 
-  pub append-bytes : Bytes s → Bytes (append_call d s).session
-  append-bytes b = append_cases (λ o. Bytes o.session) d s (λ why. b) (λ may alone. bytes-begun_at s 16 Append (omega arith) (may-long may) b)
-
   pub truncate-bytes : Bytes s → Bytes (truncate_call d s).session
   truncate-bytes b = truncate-cases (λ o. Bytes o.session) d s (λ why. b) (λ may. bytes-begun_at s 16 Truncate (omega arith) (may-long may) b)
 
@@ -275,13 +246,8 @@ module _ (d s : List ℕ) where
 -- ---- what a served call means
 
 module _ (d s : List ℕ) (bytes : Bytes s) where
-  means : (t : ℕ) (k : Kind) → MayBegin d s t → session_of (begun_at s t k) ≡ begun_in (session_of s) t k
+  pub means : (t : ℕ) (k : Kind) → MayBegin d s t → session_of (begun_at s t k) ≡ begun_in (session_of s) t k
   means t k may = session-begun_at s t k may.place (begun-ready s (usable-begun d s may.areas)) (next_fits s bytes may.number)
-
-  pub append-means : code_of (append_call d s).answer ≡ 0 → session_of (append_call d s).session ≡ begun_in (session_of s) 16 Append
-  append-means =
-      append_cases (λ o. code_of o.answer ≡ 0 → session_of o.session ≡ begun_in (session_of s) 16 Append) d s
-      (λ why e. absurd (refusal-some why e)) (λ may alone e. means 16 Append may)
 
   pub truncate-means : code_of (truncate_call d s).answer ≡ 0 → session_of (truncate_call d s).session ≡ begun_in (session_of s) 16 Truncate
   truncate-means =

@@ -1,13 +1,11 @@
 pub mod Pieces
 pub mod PiecesLaws
 pub mod FileBytes
-pub mod FileBytesLaws
 pub mod Files
 pub mod WriteLaws
 pub mod MarkLaws
 pub mod MarkOrder
 pub mod Epochs
-pub mod EpochsLaws
 pub mod Slots
 pub mod SlotsLaws
 pub mod Bounds

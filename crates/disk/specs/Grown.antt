@@ -5,7 +5,7 @@ use Rattle.std.proofs.lemmas.List.{length-replicate, get_or-replicate}
 use Rattle.octets.specs.Bytes.{put, length-put, length_part, get_d-put-in, get_d-put-other}
 use Rattle.octets.specs.Cases.{order}
 use Rattle.components.specs.FileBytes.{written}
-use Rattle.components.specs.FileBytesLaws.{written_none, length-written, written_new, written-old, written-hole}
+use Rattle.components.proofs.FileBytesLaws.{written_none, length-written, written_new, written-old, written-hole}
 
 module _ (s : List ℕ) (a n at : ℕ) (bs : List ℕ) where
   -- zeros from its end up to the write, and the bytes

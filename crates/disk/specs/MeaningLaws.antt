@@ -330,9 +330,9 @@ module _ (s : List ℕ) where
   unfolding slot_of
   owner-in i l = ap (λ (r : Slot). r.owner) (slot-in i l)
 
-  pub number_in : (i : ℕ) → i < slots s → ((disk_of s).slot i).number ≡ number s i
+  pub number_in_lem : (i : ℕ) → i < slots s → ((disk_of s).slot i).number ≡ number s i
   unfolding slot_of
-  number_in i l = ap (λ (r : Slot). r.number) (slot-in i l)
+  number_in_lem i l = ap (λ (r : Slot). r.number) (slot-in i l)
 
   pub bytes-in : (i : ℕ) → i < slots s → ((disk_of s).slot i).bytes ≡ file_bytes s i
   unfolding slot_of
@@ -349,7 +349,7 @@ module _ (s : List ℕ) where
   pub find-slot : (d n : ℕ) → find_in s d n ≡ slot_with (disk_of s) d n
   unfolding find_in
   find-slot d n =
-      first-same (is_file s d n) _ (slots s) 0 (λ i l h. rw (owner-in i (omega arith), number_in i (omega arith)))
+      first-same (is_file s d n) _ (slots s) 0 (λ i l h. rw (owner-in i (omega arith), number_in_lem i (omega arith)))
       ∙ ap (λ (k : ℕ). first (λ i. eqb ((disk_of s).slot i).owner (d + 1) && eqb ((disk_of s).slot i).number n) k 0) (sym slots-in)
 
   pub find-named : (tape : List ℕ) (n : ℕ) → find_file s tape n ≡ slot_named (disk_of s) tape n

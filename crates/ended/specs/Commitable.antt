@@ -1,43 +1,32 @@
--- A commit of areas that are in order is served: what it publishes makes a list that may be stored, which has every published tape just once, and the tapes
--- that it touched have their directories. What is left to refuse is the last epoch, and for an append that no slot is free. Assumes nothing.
+-- What a commit publishes makes a list that has every published tape just once, and no start in it is above its length. What is served with it is in
+-- proofs/Commitable.antt. Assumes nothing.
 use Rattle.std.specs.Prelude.{◌≡◌, ◌≢◌, Bool, ◌&&◌}
 use Rattle.std.proofs.Math.Path.{refl, sym, ap}
-use Rattle.std.proofs.Common.{subst, ◌∙◌, true≢false}
+use Rattle.std.proofs.Common.{subst, ◌∙◌}
 use Rattle.std.proofs.Math.Bool.{true, false}
-use mathlib.Core.List.{List, []}
+use mathlib.Core.List.{List}
 use Prim.Native.Nat.{ℕ, zero, suc, ◌+◌, ◌≤◌, ◌<◌}
 use native.Mathlib.Omega.{arith}
-use borrow.Author.Tests.{eq-eqb, ne_eqb}
 use Rattle.std.proofs.Math.ListN.{length}
 use Rattle.octets.specs.Cases.{decide}
 use Rattle.octets.specs.Compare.{comes_before, before-irrefl, before-trans, before-total}
-use Rattle.octets.specs.First.{count, count-le, count_same, count-more}
+use Rattle.octets.specs.First.{count, count_same, count-more}
 use Rattle.octets.specs.declared.Found.{Found}
 use Rattle.octets.specs.declared.Found.TheVariants.{At, Nothing}
-use Rattle.answers.specs.Outcome.{Outcome}
-use Rattle.answers.specs.declared.Answer.TheVariants.{Done}
-use Rattle.metadata.specs.Struct.{list_of, storable}
 use Rattle.layout.specs.Names.{name}
 use Rattle.layout.specs.Session.{names_at}
-use Rattle.session.specs.Rows.{head_of, view_of, staged_of}
+use Rattle.session.specs.Rows.{view_of, staged_of}
 use Rattle.beginning.specs.Transactions.{is_open_at}
 use Rattle.staging.specs.Seeing.{writes, cuts}
-use Rattle.appending.specs.Room.{no_room}
-use Rattle.ending.specs.Checking.{is_published, is_whole, may_commit}
-use Rattle.ending.specs.CommitLaws.{the_list}
-use Rattle.ending.specs.CommitMeaning.{writes-cuts}
-use Rattle.ending.specs.CommitWays.{append-served, truncate-served, commit-appends, commit-truncates}
-use Rattle.ending.specs.Committing.{appended, truncated_by, commit_call}
-use Rattle.ending.specs.Listing.{is_touched, published, next_behind, with_next, list_behind, next_list}
-use Rattle.ending.specs.ListingLaws.{next-found, next-first, next-none, next-storable}
+use Rattle.ending.specs.Listing.{is_touched, published, next_behind, with_next, list_behind}
+use Rattle.ending.specs.ListingLaws.{next-found, next-first, next-none}
 use Rattle.ending.specs.StepLaws.{touched-held}
 use Rattle.held.specs.Held.{Held}
 use Rattle.lives.specs.Life.{Writer}
 use Rattle.lives.specs.Told.{Staging, Told}
 use Rattle.lives.specs.Invariant.{Phys, erase_w, build, Staged, Live, GoodIf, Good}
 use Rattle.seen.specs.Seen.{place_of, view_in, staged_in, Seen}
-use Rattle.seen.specs.Orderly.{Orderly, orderly-usable}
-use Rattle.seen.specs.Proper.{Proper}
+use Rattle.seen.specs.Orderly.{Orderly}
 use Rattle.ended.specs.CommitAppends.{touched-view}
 use Rattle.seen.specs.GoodTapes.{good-bounded}
 use Rattle.seen.specs.Shown.{shown-whole}
@@ -46,8 +35,6 @@ use Rattle.seen.specs.Places.{found_at}
 use Rattle.seen.specs.ProperLaws.{listed-named}
 use Rattle.ended.specs.Turns.{touched-named}
 use Rattle.seen.specs.Kinds.{writes-kind, writes-open, cuts-open}
-use Rattle.seen.specs.Rooms.{all_there_lem}
-use Rattle.seen.specs.Lists.{behind-none, published-apart, published-named}
 
 -- ---- the list has as many tapes as are published, where no two of them have one name
 
@@ -56,7 +43,7 @@ unfolding count
 count_none p h = count_same p (λ (j : ℕ). false) 8 0 (λ j l m. h j (omega arith))
 
 -- a published tape whose name comes behind one
-abbrev is_behind : List ℕ → Bool → List ℕ → ℕ → Bool
+abbrev pub is_behind : List ℕ → Bool → List ℕ → ℕ → Bool
 is_behind s cut before p = (published s cut p).listed && comes_before before (name s names_at p)
 
 module _ (s : List ℕ) (cut : Bool)
@@ -94,7 +81,7 @@ module _ (s : List ℕ) (cut : Bool)
       (λ (listed : (published s cut q).listed ≡ true). rw (listed, next-none s cut before q e low listed))
       (λ (unlisted : (published s cut q).listed ≡ false). rw unlisted))
 
-  as_many : (k : ℕ) (before : List ℕ) → count (is_behind s cut before) 8 0 ≤ k → length (list_behind s cut k before) ≡ count (is_behind s cut before) 8 0
+  pub as_many : (k : ℕ) (before : List ℕ) → count (is_behind s cut before) 8 0 ≤ k → length (list_behind s cut k before) ≡ count (is_behind s cut before) 8 0
   unfolding list_behind
   as_many zero before few = omega arith
   as_many (suc k) before few = by (next_behind s cut before) refl (as_many k)
@@ -107,52 +94,9 @@ module _ (s : List ℕ) (cut : Bool)
           omega (arith, rest (name s names_at p) (omega arith))
       by Nothing e rest = sym (none_left before e)
 
--- ---- what is checked before a commit
-
 -- no published start is above its length
 abbrev pub Bounded : List ℕ → Bool → Type 0
 Bounded s cut = (p : ℕ) → p < 8 → (published s cut p).listed ≡ true → (published s cut p).start ≤ (published s cut p).len
-
-module _ (d s : List ℕ) (o : Orderly d s) (running : is_open_at s 16 ≡ true) (cut : Bool) where
-  list-whole : is_whole s cut (the_list s cut) ≡ true
-  unfolding is_whole list_of
-  list-whole =
-      eq-eqb (length (next_list s cut)) (count (is_published s cut) 8 0)
-      (as_many s cut (published-apart d s o running cut) 8 [] (count-le (is_behind s cut []) 8 0)
-      ∙ count_same (is_behind s cut []) (is_published s cut) 8 0
-      (λ p a b.
-      decide (published s cut p).listed
-      (λ (listed : (published s cut p).listed ≡ true). rw (listed, behind-none (name s names_at p) (published-named d s o running cut p (omega arith) listed)))
-      (λ (unlisted : (published s cut p).listed ≡ false). rw unlisted)))
-
-  module _ (proper : Proper d s) (more : (head_of s).epoch ≢ 0xffff_ffff_ffff_ffff)
-      (bounded : Bounded s cut) where
-    list-storable : storable (the_list s cut) ≡ true
-    list-storable =
-        next-storable s cut (λ p low listed. record { rule = proper.rule p low (published-named d s o running cut p low listed); inside = bounded p low listed })
-
-    may-commit : may_commit d s cut (the_list s cut) ≡ Done ((head_of s).epoch + 1)
-    unfolding may_commit
-    may-commit = rw (list-whole, list-storable, ne_eqb (head_of s).epoch 0xffff_ffff_ffff_ffff more, all_there_lem d s o)
-
--- ---- the calls
-
-module _ (d s : List ℕ) (k : ℕ) (o : Orderly d s) (proper : Proper d s) (more : (head_of s).epoch ≢ 0xffff_ffff_ffff_ffff) where
-  pub commit-append-serves : writes s k ≡ true → no_room d s 8 0 ≡ false → Bounded s false → (commit_call d s k).answer ≡ Done ((head_of s).epoch + 1)
-  unfolding appended
-  commit-append-serves w room bounded =
-      ap (λ (r : Outcome). r.answer)
-      (commit-appends d s k (orderly-usable d s o) w
-      ∙ append-served d s (the_list s false) refl _ (may-commit d s o (writes-open s k w) false proper more bounded) room)
-
-  pub commit-truncate-serves : cuts s k ≡ true → Bounded s true → (commit_call d s k).answer ≡ Done ((head_of s).epoch + 1)
-  unfolding truncated_by
-  commit-truncate-serves c bounded =
-      let other : writes s k ≡ false
-      = decide (writes s k) (λ (w : writes s k ≡ true). absurd (true≢false (sym c ∙ writes-cuts s k w))) (λ f. f) in
-      ap (λ (r : Outcome). r.answer)
-      (commit-truncates d s k (orderly-usable d s o) other c
-      ∙ truncate-served d s (the_list s true) refl _ (may-commit d s o (cuts-open s k c) true proper more bounded))
 
 -- ---- starts are not above lengths, where every tape is as `lives` says
 

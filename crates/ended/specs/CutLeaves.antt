@@ -38,8 +38,8 @@ served-cuts d s k =
     (λ ok c v g e no. c)
 
 -- names of a table, by place
-name_of : (s u : List ℕ) (base : ℕ) → names u base ≡ names s base → (p : ℕ) → p < 8 → name u base p ≡ name s base p
-name_of s u base e p low = sym (table-in 8 _ (name u base) p low) ∙ ap (λ (f : ℕ → List ℕ). f p) e ∙ table-in 8 _ (name s base) p low
+name_of_lem : (s u : List ℕ) (base : ℕ) → names u base ≡ names s base → (p : ℕ) → p < 8 → name u base p ≡ name s base p
+name_of_lem s u base e p low = sym (table-in 8 _ (name u base) p low) ∙ ap (λ (f : ℕ → List ℕ). f p) e ∙ table-in 8 _ (name s base) p low
 
 -- ---- what it leaves
 
@@ -80,10 +80,10 @@ module _ (d s : List ℕ) (o : Orderly d s) (k : ℕ) (served : code_of (commit_
   ends = commit-cut-end d s o k served other
 
   name-same : (p : ℕ) → p < 8 → name u names_at p ≡ name s names_at p
-  name-same = name_of s u names_at left.tapes
+  name-same = name_of_lem s u names_at left.tapes
 
   folder-same : (p : ℕ) → p < 8 → name e directories p ≡ name d directories p
-  folder-same = name_of d e directories left.known
+  folder-same = name_of_lem d e directories left.known
 
   handle-same : (p : ℕ) → p < 8 → handle_of u p ≡ handle_of s p
   handle-same p low =

@@ -39,7 +39,7 @@ use Rattle.ending.specs.Steps.{unstage}
 use Rattle.joins.specs.Caches.{Becomes, unstage-becomes, reverted-becomes}
 use Rattle.joins.specs.Tracks.{own-retracked, other-retracked}
 use Rattle.seen.specs.Seen.{files_for}
-use Rattle.ended.specs.Ends.{Row, row_of, row_in, row_at, touched_row, is-touched-row, rows-only, row-becomes, others-become, files-found, files-tracking, files-apart, TouchedApart, Turn, swept-row, swept-files, swept-apart}
+use Rattle.ended.specs.Ends.{Row, row_of, row_in, row_at_lem, touched_row, is-touched-row, rows-only, row-becomes, others-become, files-found, files-tracking, files-apart, TouchedApart, Turn, swept-row, swept-files, swept-apart}
 
 -- ---- a known tape
 
@@ -86,16 +86,16 @@ module _ (b : List ℕ) (ready : Ready b) (i : ℕ) (low : i < 8) where
 
   wiped-own : row_of wiped i ≡ record { handle = no_handle; name = []; ring = no_ring; staged = staged_of b i }
   wiped-own =
-      sym (row_at wiped i low)
+      sym (row_at_lem wiped i low)
       ∙ ap (λ (m : Session). row_in m i) wiped-means
       ∙ rw (eq-eqb i i refl)
-      (ap (λ (r : Row). record { handle = no_handle; name = []; ring = no_ring; staged = r.staged }) (row_at b i low))
+      (ap (λ (r : Row). record { handle = no_handle; name = []; ring = no_ring; staged = r.staged }) (row_at_lem b i low))
 
   wiped-others : (q : ℕ) → q < 8 → q ≢ i → row_of wiped q ≡ row_of b q
   wiped-others q l apart =
-      sym (row_at wiped q l)
+      sym (row_at_lem wiped q l)
       ∙ ap (λ (m : Session). row_in m q) wiped-means
-      ∙ rw (ne_eqb q i apart) (row_at b q l)
+      ∙ rw (ne_eqb q i apart) (row_at_lem b q l)
 
   wiped-tracking : (session_of wiped).tracking ≡ (session_of b).tracking
   wiped-tracking = ap (λ (m : Session). m.tracking) wiped-means

@@ -52,8 +52,8 @@ row_of t p = record { handle = handle_of t p; name = name t names_at p; ring = r
 abbrev pub row_in : Session → ℕ → Row
 row_in m p = record { handle = m.handle p; name = m.name p; ring = m.ring p; staged = m.staged p }
 
-pub row_at : (t : List ℕ) (p : ℕ) → p < 8 → row_in (session_of t) p ≡ row_of t p
-row_at t p low k = record { handle = handle-at t p low k; name = name-at t p low k; ring = ring-at t p low k; staged = staged-at t p low k }
+pub row_at_lem : (t : List ℕ) (p : ℕ) → p < 8 → row_in (session_of t) p ≡ row_of t p
+row_at_lem t p low k = record { handle = handle-at t p low k; name = name-at t p low k; ring = ring-at t p low k; staged = staged-at t p low k }
 
 -- an open tape that the writer touched
 abbrev pub touched_row : Row → Bool
@@ -221,9 +221,9 @@ module _ (s : List ℕ) (begun : Begun s) where
 
   pub closed-row : (p : ℕ) → p < 8 → row_of (close_writer s) p ≡ record { handle = handle_of s p; name = name s names_at p; ring = ring_of s p; staged = untouched }
   closed-row p low =
-      sym (row_at (close_writer s) p low)
+      sym (row_at_lem (close_writer s) p low)
       ∙ ap (λ (m : Session). row_in m p) closed-session
-      ∙ ap (λ (r : Row). record { handle = r.handle; name = r.name; ring = r.ring; staged = untouched }) (row_at s p low)
+      ∙ ap (λ (r : Row). record { handle = r.handle; name = r.name; ring = r.ring; staged = untouched }) (row_at_lem s p low)
 
   pub closed-files : (d n : List ℕ) → files_for d (close_writer s) n ≡ files_for d s n
   closed-files d n = files-tracking d s (close_writer s) (ap (λ (m : Session). m.tracking) closed-session) n

@@ -12,7 +12,7 @@ use Rattle.components.specs.Pieces.{file_of}
 use Rattle.components.specs.PiecesLaws.{file-mono}
 use Rattle.components.specs.Files.{Files}
 use Rattle.components.specs.Slots.{lacking_from, covered}
-use Rattle.components.specs.SlotsLaws.{lacking-same}
+use Rattle.components.proofs.SlotsLaws.{lacking-same}
 use Rattle.layout.specs.Disk.{slots}
 use Rattle.layout.specs.Names.{name}
 use Rattle.layout.specs.Session.{names_at, file_size_of}
@@ -33,9 +33,11 @@ use Rattle.ending.specs.StepLaws as Step
 use Rattle.ending.specs.StepLaws.{Kept, touched-held, staged-pending, staged-fits, kept-none, kept_then, kept-flush_tape}
 use Rattle.held.specs.Held.{flush}
 use Rattle.joins.specs.FilesAt.{files_at, held_at, Once}
-use Rattle.joins.specs.Ranges.{lacking-last, last-part}
+use Rattle.joins.specs.Ranges.{last-part}
+use Rattle.joins.proofs.Ranges.{lacking-last}
 use Rattle.joins.specs.Writes.{Grown}
-use Rattle.joins.specs.Sends.{Lacks, flushed-files}
+use Rattle.joins.specs.Sends.{Lacks}
+use Rattle.joins.proofs.Sends.{flushed-files}
 use Rattle.seen.specs.Lacking.{open-lacking, all_from}
 use Rattle.ended.specs.Turns.{Turns, turns-end, turns-other, turns-own, touched_place, place-touched, place-directory, touched-place, touched-its-row, folder-kept, directory-kept, touched-kept, PlacesApart, turn-nowhere}
 

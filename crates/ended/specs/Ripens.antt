@@ -17,7 +17,7 @@ use Rattle.ending.specs.Steps.{ripen_in, ripened_at, ripen_tape, ripen_all}
 use Rattle.ending.specs.StepLaws.{Whole, Kept, kept-none, whole-kept, kept_then, kept-ripen_tape}
 use Rattle.joins.specs.FilesAt.{files_at, Once}
 use Rattle.joins.specs.Tracks.{Changed}
-use Rattle.joins.specs.Directories.{changed-ripened}
+use Rattle.joins.proofs.Directories.{changed-ripened}
 use Rattle.ended.specs.Turns.{Turns, turns-end, turns-other, turns-own, touched_place, place-touched, place-directory, directory-kept, touched-kept, PlacesApart, turn-nowhere}
 
 -- as far as some tapes are done

@@ -6,7 +6,7 @@ use Rattle.octets.specs.Cases.{order}
 use Rattle.ring_buffer.specs.Ring.{nths}
 use Rattle.ring_buffer.specs.RingLaws.{length-nths, get_d-nths}
 use Rattle.ring_buffer.specs.Put.{unwritten_of}
-use Rattle.components.specs.WriteLaws.{write-below, write-in, write-mark}
+use Rattle.components.proofs.WriteLaws.{write-below, write-in, write-mark}
 use Rattle.held.specs.Held.{Held, flush}
 use Rattle.held.specs.Page.{Kept, Ringed, Sound}
 

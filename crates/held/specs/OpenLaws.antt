@@ -11,7 +11,7 @@ use Rattle.ring_buffer.specs.RingLaws.{sound-fresh, sound-reset}
 use Rattle.components.specs.Pieces.{file_of, place_in}
 use Rattle.components.specs.PiecesLaws.{file-mono}
 use Rattle.components.specs.Files.{Files, byte_at, mark_below, track}
-use Rattle.components.specs.MarkLaws.{mark-mark, track-bytes, track-there, track-mark, track-byte, remove-mark}
+use Rattle.components.proofs.MarkLaws.{mark-mark, track-bytes, track-there, track-mark, track-byte, remove-mark}
 use Rattle.held.specs.Held.{forget, taken, on_disk_at, load, filled}
 use Rattle.held.specs.Page.{Kept, Ringed, Sound}
 use Rattle.held.specs.SettleLaws.{swept_kept}

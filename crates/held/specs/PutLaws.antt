@@ -16,7 +16,7 @@ use Rattle.ring_buffer.specs.Ring as R
 use Rattle.ring_buffer.specs.RingLaws.{length-nths, sound-prepared, push-old, push-new, sound-push, first-pushed}
 use Rattle.ring_buffer.specs.Put.{fills, pushes_out, last_of, go_by, after_put, bytes_after_put, unwritten_of, sent, unwritten_after, last_fits}
 use Rattle.components.specs.Files.{Files, write}
-use Rattle.components.specs.WriteLaws.{write-append, write-below, write-in, write-mark}
+use Rattle.components.proofs.WriteLaws.{write-append, write-below, write-in, write-mark}
 use Rattle.held.specs.Held.{Held, flush, put_held}
 use Rattle.held.specs.Page.{Kept, Ringed, Sound}
 use Rattle.held.specs.FlushLaws.{flush-old, flush-new, flush-mark}

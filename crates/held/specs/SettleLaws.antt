@@ -7,8 +7,8 @@ use Rattle.ring_buffer.specs.Put.{unwritten_of}
 use Rattle.components.specs.Pieces.{file_of}
 use Rattle.components.specs.PiecesLaws.{file-mono}
 use Rattle.components.specs.Files.{Files, mark_below, removes, remove}
-use Rattle.components.specs.WriteLaws.{write-mark}
-use Rattle.components.specs.MarkLaws.{mark-mark, mark-byte, removed-mark, remove-mark, remove-keeps}
+use Rattle.components.proofs.WriteLaws.{write-mark}
+use Rattle.components.proofs.MarkLaws.{mark-mark, mark-byte, removed-mark, remove-mark, remove-keeps}
 use Rattle.held.specs.Held.{Held, flush, settled}
 use Rattle.held.specs.Page.{Kept, Sound}
 

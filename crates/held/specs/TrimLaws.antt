@@ -6,7 +6,7 @@ use Rattle.octets.specs.Cases.{picked}
 use Rattle.ring_buffer.specs.Ring.{nth, truncated}
 use Rattle.ring_buffer.specs.RingLaws.{sound-truncated}
 use Rattle.components.specs.Pieces.{file_of}
-use Rattle.components.specs.MarkLaws.{clear-mark, clear-byte}
+use Rattle.components.proofs.MarkLaws.{clear-mark, clear-byte}
 use Rattle.held.specs.Held.{Held, trimmed}
 use Rattle.held.specs.Page.{Kept, Ringed, Sound}
 

@@ -11,7 +11,7 @@ use Rattle.components.specs.PiecesLaws.{piece-number, next-number, left-some, fi
 use Rattle.components.specs.FileBytes.{written}
 use Rattle.components.specs.Files.{File, Files, untracked, write_byte, write}
 use Rattle.components.specs.Slots.{covered}
-use Rattle.components.specs.SlotsLaws.{covered_none, covered-some}
+use Rattle.components.proofs.SlotsLaws.{covered_none, covered-some}
 
 abbrev pub with_bytes : File → List ℕ → File
 with_bytes f bs = record { there = f.there; tracked = f.tracked; mark = f.mark; bytes = bs }

@@ -15,7 +15,7 @@ use Rattle.octets.specs.First.{all}
 use Rattle.octets.specs.declared.Found.{Found}
 use Rattle.octets.specs.declared.Found.TheVariants.{At, Nothing}
 use Rattle.components.specs.Pieces.{file_of, place_in}
-use Rattle.components.specs.FileBytesLaws.{at_some, at_none}
+use Rattle.components.proofs.FileBytesLaws.{at_some, at_none}
 use Rattle.components.specs.Files.{File, gone, byte_at}
 use Rattle.layout.specs.Disk.{Sound, directories, slots}
 use Rattle.layout.specs.Names.{name, find_name}

@@ -9,7 +9,7 @@ use Rattle.octets.specs.declared.Found.{Found}
 use Rattle.octets.specs.declared.Found.TheVariants.{At, Nothing}
 use Rattle.layout.specs.Disk.{slots, owner}
 use Rattle.disk.specs.Meaning.{Slot, Disk, free, disk_of, slot_with, file_count}
-use Rattle.disk.specs.MeaningLaws.{owner-in, number_in, slots-in, find-slot, files-count}
+use Rattle.disk.specs.MeaningLaws.{owner-in, number_in_lem, slots-in, find-slot, files-count}
 use Rattle.disk.specs.FileLaws.{has, with-low, with-is}
 use Rattle.components.specs.Files.{Files}
 use Rattle.session.specs.Meaning.{session_of}
@@ -32,14 +32,14 @@ once-single d h =
       single = λ i j l k used o n.
           let below : i < slots d = rw (slots-in d) at l in
           let under : j < slots d = rw (slots-in d) at k in
-          h.once i j below under (rw (owner-in d i below) at used) (rw (owner-in d i below, owner-in d j under) at o) (rw (number_in d i below, number_in d j under) at n);
+          h.once i j below under (rw (owner-in d i below) at used) (rw (owner-in d i below, owner-in d j under) at o) (rw (number_in_lem d i below, number_in_lem d j under) at n);
     }
 
 pub single-once : (d : List ℕ) → Single (disk_of d) → Once d
 single-once d h =
     record {
       once = λ i j l k used o n.
-          h.single i j (rw (slots-in d) l) (rw (slots-in d) k) (rw (owner-in d i l) used) (rw (owner-in d i l, owner-in d j k) o) (rw (number_in d i l, number_in d j k) n);
+          h.single i j (rw (slots-in d) l) (rw (slots-in d) k) (rw (owner-in d i l) used) (rw (owner-in d i l, owner-in d j k) o) (rw (number_in_lem d i l, number_in_lem d j k) n);
     }
 
 module _ (m : Disk) (h : Single m) (place k : ℕ) where

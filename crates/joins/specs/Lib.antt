@@ -9,7 +9,5 @@ pub mod Sends
 pub mod Tracks
 pub mod Freed
 pub mod Ripe
-pub mod Removes
-pub mod Directories
 pub mod Caches
 pub mod Fetches

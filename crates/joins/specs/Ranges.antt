@@ -6,7 +6,7 @@ use Rattle.octets.specs.Cases.{order}
 use Rattle.components.specs.Pieces.{file_of, left_in}
 use Rattle.components.specs.PiecesLaws.{left-some, piece-number, next-number, file-mono}
 use Rattle.components.specs.Slots.{lacking_from, covered}
-use Rattle.components.specs.SlotsLaws.{lacking-split, covered_none, covered-some}
+use Rattle.components.proofs.SlotsLaws.{lacking-split, covered_none, covered-some}
 
 -- fewer numbers lack no more
 pub lacking-within : (there : ℕ → Bool) (k e j c : ℕ) → k ≤ j → j + c ≤ k + e → lacking_from there j c ≤ lacking_from there k e
@@ -44,8 +44,3 @@ module _ (fs : ℕ) (z : 0 < fs) where
       (λ (h : end ≤ base).
       let same : mid ≡ base = omega arith in
       omega (arith, covered_none fs mid end (omega arith), ap (λ (x : ℕ). file_of fs x) same))
-
-  pub lacking-last : (there : ℕ → Bool) (base mid end : ℕ) → base ≤ mid → mid ≤ end
-      → lacking_from there (file_of fs mid) (covered fs mid end) ≤ lacking_from there (file_of fs base) (covered fs base end)
-  lacking-last there base mid end l m =
-      lacking-within there (file_of fs base) (covered fs base end) (file_of fs mid) (covered fs mid end) (file-mono fs z base mid l) (last-part base mid end l m)

@@ -13,7 +13,7 @@ use Rattle.components.specs.Files.{File, Files, untracked}
 use Rattle.layout.specs.Disk.{slots}
 use Rattle.layout.specs.Session.{Begun}
 use Rattle.disk.specs.Meaning.{Slot, Disk, free, slot_of, slot_with, disk_of, with_slot}
-use Rattle.disk.specs.MeaningLaws.{owner-in, number_in}
+use Rattle.disk.specs.MeaningLaws.{owner-in, number_in_lem}
 use Rattle.disk.specs.FileLaws.{has, with-is, new_file}
 use Rattle.session.specs.Rows.{put_tracking}
 use Rattle.session.specs.KeepLaws.{begun-ready}
@@ -132,7 +132,7 @@ retracks-in d place c t =
     fun_ext
     (λ (j : ℕ).
     order j (slots d)
-    (λ (l : j < slots d). rw (lt-ltb j (slots d) l, owner-in d j l, number_in d j l))
+    (λ (l : j < slots d). rw (lt-ltb j (slots d) l, owner-in d j l, number_in_lem d j l))
     (λ (l : slots d ≤ j). rw (le-ltb j (slots d) l, ne_eqb ((disk_of d).slot j).owner (place + 1) (λ h. omega (arith, owner-out d j l)))))
 
 -- those above untracked, and a slot's file tracked

@@ -9,7 +9,7 @@ use Rattle.octets.specs.Cases.{decide, equal}
 use Rattle.components.specs.Pieces.{file_of}
 use Rattle.components.specs.Files.{Files, write}
 use Rattle.components.specs.Slots.{lacking_from, covered as files_covered}
-use Rattle.components.specs.SlotsLaws.{lacking-same, lacking-made, covers}
+use Rattle.components.proofs.SlotsLaws.{lacking-same, lacking-made, covers}
 use Rattle.layout.specs.Disk.{slots, Sound}
 use Rattle.layout.specs.Session.{Begun}
 use Rattle.disk.specs.Steps.{files}

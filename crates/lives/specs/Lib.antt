@@ -6,7 +6,6 @@ pub mod StepsStaged
 pub mod StepsOpen
 pub mod StepsCommit
 pub mod StepsDrop
-pub mod Steps
 pub mod Reads
 pub mod Waits
 pub mod Examples

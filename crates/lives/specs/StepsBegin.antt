@@ -5,7 +5,7 @@ use mathlib.Core.List.Memᴰ
 use mathlib.Core.List.{List, ◌∷◌, map, Memᴰ}
 use Rattle.octets.specs.Cases.{picked, order}
 use Rattle.components.specs.Epochs.{older}
-use Rattle.components.specs.EpochsLaws.{none-older}
+use Rattle.components.proofs.EpochsLaws.{none-older}
 use Rattle.lives.specs.Life.{Writer, Done, refuse, then, epoch_in, epochs, reader, append, truncate, step_reader, step_append, step_truncate}
 use Rattle.lives.specs.Told.{Window, Staging, idle, appending, cutting, Told, with_writer, with_windows}
 use Rattle.lives.specs.Invariant.{Phys, erase, erase_w, build, now, PageHeld, Good, Goes, refused, restaged, rested, rewindowed, reslept}

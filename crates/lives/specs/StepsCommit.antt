@@ -8,7 +8,7 @@ use Rattle.octets.specs.Cases.{picked, order}
 use Rattle.components.specs.Pieces.{file_of}
 use Rattle.components.specs.PiecesLaws.{file-mono}
 use Rattle.components.specs.Epochs.{oldest_other}
-use Rattle.components.specs.EpochsLaws.{oldest-le}
+use Rattle.components.proofs.EpochsLaws.{oldest-le}
 use Rattle.held.specs.Held.{Held, flush, settled, trimmed}
 use Rattle.held.specs.Page.{Kept, Ringed, Sound}
 use Rattle.held.specs.FlushLaws.{flush-old, flush-new, flush-mark}

@@ -1,16 +1,13 @@
 -- For one tape: whom an append waits for, by what is told. Assumes nothing.
-use Rattle.std.specs.Prelude.{◌≡◌, refl, true, false, cond, ◌&&◌, ◌⊎◌, ℕ, suc, ◌+◌, ◌<◌, eqb, ltb, length}
+use Rattle.std.specs.Prelude.{◌≡◌, refl, true, ◌⊎◌, ℕ, ◌<◌, eqb, ltb, length}
 use Rattle.std.proofs.Common.{ap, inl, inr, ⊎_elim, arith, ltb-true, ltb-false}
 use Rattle.std.proofs.lemmas.Bool.{false≢true}
 use mathlib.Core.List.Memᴰ
-use mathlib.Core.List.{List, [], ◌∷◌, map, Memᴰ}
-use Rattle.octets.specs.Cases.{picked, and_l, and_r}
-use Rattle.components.specs.Epochs.{older}
-use Rattle.lives.specs.Life.{Writer, Store, TapeCall, Answer, After, Done, Bytes, Refused, restart, reader, append, truncate, open', put, shift, cut, read, commit, drop', epochs, refuse, then, step_append, step}
-use Rattle.lives.specs.Told.{Window, Staging, idle, appending, cutting, Told, with_writer, told, before, quiet, told_drop}
-use Rattle.lives.specs.Invariant.{Phys, erase, erase_w, build}
+use mathlib.Core.List.{List, [], ◌∷◌, Memᴰ}
+use Rattle.octets.specs.Cases.{picked}
+use Rattle.lives.specs.Life.{TapeCall, Answer, Done, Bytes, Refused, restart, reader, append, truncate, open', put, shift, cut, read, commit, drop'}
+use Rattle.lives.specs.Told.{Window, Staging, idle, appending, cutting, Told, told, before, quiet, told_drop}
 use Rattle.lives.specs.StepsDrop.{closed-mem}
-use Rattle.lives.specs.Reads.{Tied}
 
 -- ---- without a commit the epoch stands, and a window that is new is of this epoch
 
@@ -48,15 +45,6 @@ unmoved t (read k o j) (Done n) q = still t
 unmoved t (commit k) (Done n) q = absurd (false≢true q)
 unmoved t (drop' k) (Done n) q = unmoved-drop k t t.writer
 
-older-before : (e : ℕ) (ws : List Window) → older e (epochs (map erase ws)) ≡ length (before e ws)
-unfolding older before
-older-before e [] = refl
-older-before e (w ∷ ws) =
-    let n = older e (epochs (map erase ws)) in
-    picked (λ x. cond (ltb w.epoch e) (suc n) n ≡ length x) (ltb w.epoch e) (w ∷ before e ws) (before e ws)
-    (λ t. rw t (ap suc (older-before e ws)))
-    (λ t. rw t (older-before e ws))
-
 pub before-is : (e : ℕ) (ws : List Window) {w : Window} → Memᴰ w (before e ws) → Memᴰ w ws × (w.epoch < e)
 unfolding before
 before-is e [] = λ i. absurd (Memᴰ.not-nil i)
@@ -83,23 +71,6 @@ pub data Asked (t : Told) : Answer → Type 0 where
   busy : (t.writer ≡ idle → ⊥) → Asked t (Refused 3 0)
   wait : t.writer ≡ idle → t.cut ≡ true → 0 < length (before t.epoch t.windows) → Asked t (Refused 4 (length (before t.epoch t.windows)))
   go : (v : ℕ) → t.writer ≡ idle → (t.cut ≡ true → length (before t.epoch t.windows) ≡ 0) → Asked t (Done v)
-
-asked_in : (t : Told) (p : Phys) (x : Staging) → Asked (with_writer t x t.live) (step_append (build (with_writer t x t.live) p) (erase_w t.epoch x)).answer
-asked_in t p (appending m h c s) = busy (λ e. let z : ◌≡◌ {A = ℕ} 0 1 = cc in omega arith)
-asked_in t p (cutting m c) = busy (λ e. let z : ◌≡◌ {A = ℕ} 0 1 = cc in omega arith)
-asked_in t p idle =
-    let u = with_writer t idle t.live in
-    let n = older t.epoch (epochs (map erase t.windows)) in
-    let q : n ≡ length (before t.epoch t.windows) = older-before t.epoch t.windows in
-    let l = p.last + 1 in
-    picked (λ (a : After). Asked u a.answer) (t.cut && ltb 0 n) (refuse 4 n (build u p))
-    (then (Done l) l (build u p) (map erase t.windows) (Writer.appending l t.epoch t.listed (length t.content) t.start) false t.live p.held)
-    (λ e. rw q (wait refl (and_l t.cut (ltb 0 n) e) (omega (arith, ltb-true 0 n (and_r t.cut (ltb 0 n) e)))))
-    (λ e. go l refl (λ c. omega (arith, ltb-false 0 n (rw c at e))))
-
-pub asked : (s : Store) (t : Told) → Tied s t → Asked t (step append s).answer
-unfolding step
-asked s t i = rw i.same (asked_in t i.phys t.writer)
 
 -- "wait for n" is about exactly the windows opened before the last commit, which was a cut
 pub told-wait : (t : Told) (a : Answer) (n : ℕ) → Asked t a → a ≡ Refused 4 n → (t.cut ≡ true) × (n ≡ length (before t.epoch t.windows))

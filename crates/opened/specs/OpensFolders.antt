@@ -26,7 +26,7 @@ use Rattle.opening.specs.Directory.{taken_files, emptied, added, readied}
 use Rattle.ending.specs.StepLaws.{Whole}
 use Rattle.joins.specs.FilesAt.{Once}
 use Rattle.joins.specs.Tracks.{Changed}
-use Rattle.joins.specs.Directories.{changed-emptied, names-emptied, whole-emptied, changed-added, found-added, others-added, changed-taken, names-taken}
+use Rattle.joins.proofs.Directories.{changed-emptied, names-emptied, whole-emptied, changed-added, found-added, others-added, changed-taken, names-taken}
 use Rattle.seen.specs.Seen.{files_in, files_for}
 use Rattle.seen.specs.Places.{found_name, not_found}
 

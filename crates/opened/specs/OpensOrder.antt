@@ -117,8 +117,8 @@ module _ (d s : List ℕ) (t : ℕ) (wanted : List ℕ) (entry fs cache start : 
 
   -- ---- what the list says of every name
 
-  open_at : (v : ℕ) → v < 17 → is_open_at u v ≡ is_open_at s v
-  open_at v l = open_row s u v (rows.transactions v l)
+  open_at_lem : (v : ℕ) → v < 17 → is_open_at u v ≡ is_open_at s v
+  open_at_lem v l = open_row s u v (rows.transactions v l)
 
   writer-open : is_open_at s 16 ≡ true
   unfolding is_open_at
@@ -147,8 +147,8 @@ module _ (d s : List ℕ) (t : ℕ) (wanted : List ℕ) (entry fs cache start : 
           handles = handles-apart;
           handle-given = handles-given;
           numbers = λ v w lv lw ov ow same.
-              orderly.numbers v w lv lw (sym (open_at v lv) ∙ ov) (sym (open_at w lw) ∙ ow) (rw (rows.transactions v lv, rows.transactions w lw) at same);
-          number-given = λ v lv ov. rw (rows.transactions v lv, last-transaction) (orderly.number-given v lv (sym (open_at v lv) ∙ ov));
+              orderly.numbers v w lv lw (sym (open_at_lem v lv) ∙ ov) (sym (open_at_lem w lw) ∙ ow) (rw (rows.transactions v lv, rows.transactions w lw) at same);
+          number-given = λ v lv ov. rw (rows.transactions v lv, last-transaction) (orderly.number-given v lv (sym (open_at_lem v lv) ∙ ov));
           free-shut = λ q l free.
               let apart = free-apart q free in
               other-number q l apart ∙ orderly.free-shut q l (rw (rows.names q l apart) at free);
@@ -158,9 +158,9 @@ module _ (d s : List ℕ) (t : ℕ) (wanted : List ℕ) (entry fs cache start : 
           shut-untouched = λ q l shut.
               let apart = shut_apart q shut in
               rw (rows.stageds q l apart) (orderly.shut-untouched q l (sym (other-number q l apart) ∙ shut));
-          idle-untouched = λ idle q l. absurd (true≢false (sym writer-open ∙ sym (open_at 16 (omega arith)) ∙ idle));
+          idle-untouched = λ idle q l. absurd (true≢false (sym writer-open ∙ sym (open_at_lem 16 (omega arith)) ∙ idle));
           views = λ v lv ov q l listed.
-              rw (rows.views 17 q (omega arith) l) (orderly.views v lv (sym (open_at v (omega arith)) ∙ ov) q l (rw (rows.views v q (omega arith) l) at listed));
+              rw (rows.views 17 q (omega arith) l) (orderly.views v lv (sym (open_at_lem v (omega arith)) ∙ ov) q l (rw (rows.views v q (omega arith) l) at listed));
           writer-view = λ ov q l. rows.views 16 q (omega arith) l ∙ orderly.writer-view writer-open q l ∙ sym (rows.views 17 q (omega arith) l);
           writer-epoch = λ ov. rw (rows.transactions 16 (omega arith), rows.head) (orderly.writer-epoch writer-open);
           made-append = λ q l some made. rw (rows.transactions 16 (omega arith), sv.kind);

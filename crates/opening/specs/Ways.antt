@@ -138,8 +138,8 @@ module _ (a : Areas) (wanted : List ℕ) (o : Opening) (began : ℕ) (directory 
   ready_made h = rw h
 
 module _ (a : Areas) (wanted : List ℕ) (free : Found) where
-  pub add_at : (place : ℕ) → free ≡ At place → added a wanted free ≡ areas (add_directory (emptied a place).disk wanted).area (emptied a place).session
-  add_at place h = rw h
+  pub add_at_lem : (place : ℕ) → free ≡ At place → added a wanted free ≡ areas (add_directory (emptied a place).disk wanted).area (emptied a place).session
+  add_at_lem place h = rw h
 
   pub add-nowhere : free ≡ Nothing → added a wanted free ≡ a
   add-nowhere h = rw h

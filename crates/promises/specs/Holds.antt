@@ -14,7 +14,7 @@ use Rattle.lives.specs.Life as L
 use Rattle.lives.specs.Told.{Told}
 use Rattle.lives.specs.Told as T
 use Rattle.lives.specs.Invariant.{Phys, Good, build}
-use Rattle.lives.specs.Steps.{keeps}
+use Rattle.lives.proofs.Steps.{keeps}
 use Rattle.seen.specs.Seen.{place_of, is_open_tape, handle_in, Seen, Handled}
 use Rattle.promises.specs.Told.{Known, last_after, afterwards}
 

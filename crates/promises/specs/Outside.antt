@@ -1,5 +1,5 @@
--- Reads that are refused as told: of a number that no open transaction has, of a tape that the transaction does not see, and outside of the bounds that it sees.
--- Assumes nothing.
+-- Reads that are refused, in a running session: of a number that no open transaction has, of a tape that the transaction does not see, and outside of the bounds
+-- that it sees. Assumes nothing.
 use Rattle.std.specs.Prelude.{◌≡◌, refl, ◌≢◌, ◌⊎◌, Bool, true, false, not, ◌&&◌, List, [], ◌∷◌, map, eqb, length}
 use Rattle.std.proofs.Common.{sym, ◌∙◌, subst, inl, inr, true≢false, add-mul, arith, eq-eqb, eqb-true}
 use Rattle.std.proofs.Math.Path.{ap}
@@ -35,9 +35,6 @@ use Rattle.seen.specs.Waits.{idle-seen}
 use Rattle.seen.specs.Reads.{view_p, sight}
 use Rattle.promises.specs.Calls.{read_entries, step}
 use Rattle.promises.specs.Standing.{Lore, Running, its-place, its-life}
-use Rattle.promises.specs.Promise.{ends, known, ReadsElse}
-use Rattle.promises.specs.Runs.{stands-last}
-use Rattle.promises.specs.Reading.{with-handle}
 use Rattle.seen.specs.Transactions.{found-transaction, find-transaction}
 
 -- ---- windows with no page, and with one that is not here
@@ -191,7 +188,7 @@ module _ (d s : List ℕ) (K : Lore) (r : Running (areas d s) K) (n : List ℕ) 
   abbrev code : ℕ
   code = (step (read_entries t (K n).handle i count buffer) (areas d s)).code
 
-  else-running : (page t (K n).tape ≡ none → code ≡ 2)
+  pub else-running : (page t (K n).tape ≡ none → code ≡ 2)
       × ((q : Page) → page t (K n).tape ≡ some q → (q.here ≡ false → code ≡ 11) × (q.here ≡ true → Beyond (K n).entry i count q → code ≡ 12))
   unfolding step
   else-running =
@@ -199,8 +196,3 @@ module _ (d s : List ℕ) (K : Lore) (r : Running (areas d s) K) (n : List ℕ) 
         λ is. ap codes (unknown-read is),
         λ q is. (λ hidden. ap codes (absent-read q is hidden), λ here far. ap codes (beyond-read q is here far)),
       )
-
-pub reads-else : ReadsElse
-reads-else r n long t i count buffer given =
-    let a = ends r in
-    else-running a.disk a.session (known r) (with-handle a (known r) n long given (stands-last r)) n long given t i count buffer

@@ -2,7 +2,8 @@
 use Rattle.std.specs.Prelude.{◌≡◌, refl, ◌≢◌, List, ℕ}
 use Rattle.std.proofs.Common.{ap}
 use Rattle.rolling_tape.specs.Removal.{Areas, areas}
-use Rattle.beginning.specs.Laws.{format-refused, append-refused, truncate-refused, reader-refused}
+use Rattle.beginning.specs.Laws.{format-refused, truncate-refused, reader-refused}
+use Rattle.beginning.proofs.Laws.{append-refused}
 use Rattle.beginning.specs.StoreLaws.{store-refused}
 use Rattle.staging.specs.Laws.{shift-refused, cut-refused, drop-refused}
 use Rattle.appending.specs.Laws.{put_refused}

@@ -1,6 +1,6 @@
--- After any calls an open append has room for every file that its bytes lack (seen's `Roomy`): what was put is committed, no commit is refused for want of a
--- slot or of a directory. Assumes nothing.
-use Rattle.std.specs.Prelude.{◌≡◌, ◌≢◌, true, false, List, ℕ, ◌<◌}
+-- An open append has room for every file that its bytes lack (seen's `Roomy`), and every served call keeps that. What follows after any calls is in
+-- proofs/Rooms.antt. Assumes nothing.
+use Rattle.std.specs.Prelude.{◌≡◌, true, false, List, ℕ, ◌<◌}
 use Rattle.std.proofs.Math.Path.{refl, ap}
 use Rattle.std.proofs.Common.{sym, ◌∙◌, subst, true≢false, arith}
 use Rattle.std.proofs.lemmas.Bool.{false≢true}
@@ -40,15 +40,13 @@ use Rattle.ended.specs.AppendOrder.{shut}
 use Rattle.ended.specs.CutLeaves.{cut_left}
 use Rattle.ended.specs.DropLeaves.{drop-left}
 use Rattle.seen.specs.Restarts.{shut-stored}
-use Rattle.seen.specs.Rooms.{Roomy, append-roomy, idle-roomy, cutting-roomy, reader-roomy, drop-reader-roomy, shift-roomy, cuts-roomy, commit-fine}
+use Rattle.seen.specs.Rooms.{Roomy, append-roomy, idle-roomy, cutting-roomy, reader-roomy, drop-reader-roomy, shift-roomy, cuts-roomy}
 use Rattle.seen.specs.PutRooms.{put-roomy}
-use Rattle.opened.specs.OpenRooms.{open-roomy}
-use Rattle.promises.specs.Calls.{Call, format, store, append, reader, truncate, open_tape, append_entries, shift_start, truncate_tape, drop_entries, pop_entry, read_entries, read_entry, tape_len, tape_start, tape_exists, commit, drop_transaction, Fits, perform, step}
-use Rattle.promises.specs.Standing.{Lore, Running, Standing, running, formatted}
+use Rattle.opened.proofs.OpenRooms.{open-roomy}
+use Rattle.promises.specs.Calls.{Call, format, store, append, reader, truncate, open_tape, append_entries, shift_start, truncate_tape, drop_entries, pop_entry, read_entries, read_entry, tape_len, tape_start, tape_exists, commit, drop_transaction, Fits, perform}
+use Rattle.promises.specs.Standing.{Lore, Running}
 use Rattle.promises.specs.Drops.{reader-word}
-use Rattle.promises.specs.Runs.{stands-last}
-use Rattle.promises.specs.Always.{is_inside, no-session, Lasts, always}
-use Rattle.promises.specs.Promise.{ends, known, Commits}
+use Rattle.promises.specs.Always.{is_inside, Lasts}
 use Rattle.seen.specs.Transactions.{found-transaction}
 
 -- a closed place has no append
@@ -156,13 +154,3 @@ rooms =
       renews = λ d s K r roomy ok. stored-roomy d s r.orderly.disk-bytes ok;
       keeps = λ d s K r roomy c is fits ok old. kept d s K r roomy c is fits ok;
     }
-
-pub commits : Commits
-unfolding step
-commits r t = by (stands-last r)
-  where
-    by : Standing (ends r) (known r) → ((step (commit t) (ends r)).code ≢ 15) × ((step (commit t) (ends r)).code ≢ 16)
-    by (running q) = commit-fine (ends r).disk (ends r).session q.orderly (always RoomyIn rooms r q) t
-    by (formatted f) =
-        let one = no-session (ends r).disk (ends r).session f.unbegun (commit t) refl in
-        ((λ e. let z : ◌≡◌ {A = ℕ} 1 15 = sym one ∙ e in omega arith), (λ e. let z : ◌≡◌ {A = ℕ} 1 16 = sym one ∙ e in omega arith))

@@ -9,7 +9,8 @@ use Rattle.session.specs.declared.transactions.Transaction.{Transaction}
 use Rattle.session.specs.Rows.{head_of, transaction_of}
 use Rattle.rolling_tape.specs.Removal.{areas}
 use Rattle.beginning.specs.Calls.{reader_call, append_call, truncate_call}
-use Rattle.beginning.specs.Laws.{refusal-some, reader-cases, append_cases, truncate-cases}
+use Rattle.beginning.specs.Laws.{refusal-some, reader-cases, truncate-cases}
+use Rattle.beginning.proofs.Laws.{append_cases}
 use Rattle.staging.specs.Seeing.{is_truncate}
 use Rattle.lives.specs.Life as L
 use Rattle.lives.specs.Invariant.{build}

@@ -22,7 +22,8 @@ use Rattle.session.specs.RowLaws.{HeadFits, head-same, length-put_head}
 use Rattle.session.specs.Rows.{head_of, transaction_of, put_handle, put_staged, free_reader}
 use Rattle.session.specs.declared.head.Head.{Head}
 use Rattle.beginning.specs.Calls.{append_call, reader_call, truncate_call}
-use Rattle.beginning.specs.Laws.{refusal-some, append-refused, truncate-refused, reader-refused, append-means, truncate-means, reader-means}
+use Rattle.beginning.specs.Laws.{refusal-some, truncate-refused, reader-refused, truncate-means, reader-means}
+use Rattle.beginning.proofs.Laws.{append-refused, append-means}
 use Rattle.beginning.specs.Sessions.{store_call}
 use Rattle.beginning.specs.StoreLaws.{store-refused}
 use Rattle.beginning.specs.Transactions.{After, usable}

@@ -27,7 +27,8 @@ use Rattle.session.specs.Rows.{head_of, view_of, kind_code, transaction_of, stag
 use Rattle.beginning.specs.Transactions.{is_open_at, begun_at}
 use Rattle.beginning.specs.Calls.{waits, append_call, truncate_call, reader_call}
 use Rattle.beginning.specs.Ways.{usable-begun}
-use Rattle.beginning.specs.Laws.{MayBegin, next_head, begun_in, next_fits, session-begun_at, begun-begun_at, bytes-begun_at, refusal-some, reader-cases, append_cases, truncate-cases}
+use Rattle.beginning.specs.Laws.{MayBegin, next_head, begun_in, next_fits, session-begun_at, begun-begun_at, bytes-begun_at, refusal-some, reader-cases, truncate-cases}
+use Rattle.beginning.proofs.Laws.{append_cases}
 use Rattle.staging.specs.Seeing.{seen_by, is_append}
 use Rattle.lives.specs.Life.{Reader, Writer, Store, step, step_append, step_truncate, then, epochs}
 use Rattle.lives.specs.Life as L

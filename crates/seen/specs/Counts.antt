@@ -14,7 +14,7 @@ use Rattle.octets.specs.Cases.{picked, decide, equal, and_l, and_r, and_both}
 use Rattle.octets.specs.First.{count, count_same, count-more}
 use Rattle.octets.specs.declared.Found.{Found}
 use Rattle.components.specs.Epochs.{older, oldest_other}
-use Rattle.components.specs.EpochsLaws.{none-older, →none-older, oldest-le, oldest-member}
+use Rattle.components.proofs.EpochsLaws.{none-older, →none-older, oldest-le, oldest-member}
 use Rattle.session.specs.Rows.{head_of, transaction_of}
 use Rattle.beginning.specs.Transactions.{is_open_at, is_older, waiting_for}
 use Rattle.ending.specs.Oldest.{epochs_from, oldest_of}

@@ -83,7 +83,7 @@ module _ (d s e u : List ℕ) (f : Frame d s e u) where
   orderly-frame rules staged o =
       let number = frame-number in
       let is_open = frame-open in
-      let name_of = f.names in
+      let name_of_lem = f.names in
       let folder-of = f.folders in
       record {
         disk = rules.disk;
@@ -91,15 +91,15 @@ module _ (d s e u : List ℕ) (f : Frame d s e u) where
         disk-bytes = rules.disk-bytes;
         session-bytes = rules.session-bytes;
         once = rules.once;
-        names = λ p q lp lq some same. o.names p q lp lq (rw (name_of p lp) at some) (sym (name_of p lp) ∙ same ∙ name_of q lq);
+        names = λ p q lp lq some same. o.names p q lp lq (rw (name_of_lem p lp) at some) (sym (name_of_lem p lp) ∙ same ∙ name_of_lem q lq);
         folders = λ i j li lj some same. o.folders i j li lj (rw (folder-of i li) at some) (sym (folder-of i li) ∙ same ∙ folder-of j lj);
         handles = λ p q lp lq some same. o.handles p q lp lq (λ z. some (number p lp ∙ z)) (sym (number p lp) ∙ same ∙ number q lq);
         handle-given = λ p lp. rw (number p lp, f.head) (o.handle-given p lp);
         numbers = λ t v lt lv ot ov same.
             o.numbers t v lt lv (sym (is_open t lt) ∙ ot) (sym (is_open v lv) ∙ ov) (rw (f.transactions t lt, f.transactions v lv) at same);
         number-given = λ t lt ot. rw (f.transactions t lt, f.head) (o.number-given t lt (sym (is_open t lt) ∙ ot));
-        free-shut = λ p lp free. number p lp ∙ o.free-shut p lp (rw (name_of p lp) at free);
-        free-unlisted = λ p lp free. rw (f.views 17 p (omega arith) lp) (o.free-unlisted p lp (rw (name_of p lp) at free));
+        free-shut = λ p lp free. number p lp ∙ o.free-shut p lp (rw (name_of_lem p lp) at free);
+        free-unlisted = λ p lp free. rw (f.views 17 p (omega arith) lp) (o.free-unlisted p lp (rw (name_of_lem p lp) at free));
         shut-untouched = λ p lp shut. staged.shut p lp (sym (number p lp) ∙ shut);
         idle-untouched = λ idle p lp. staged.idle (sym (is_open 16 (omega arith)) ∙ idle) p lp;
         views = λ t lt ot p lp listed.

@@ -8,7 +8,7 @@ use borrow.Author.Tests.{ltb-false, eq-eqb, ne_eqb}
 use Rattle.octets.specs.Cases.{equal, decide}
 use Rattle.components.specs.Pieces.{file_of}
 use Rattle.components.specs.Slots.{covered}
-use Rattle.components.specs.SlotsLaws.{covered_none, lacking-empty, lacking-same}
+use Rattle.components.proofs.SlotsLaws.{covered_none, lacking-empty, lacking-same}
 use Rattle.layout.specs.Disk.{slots}
 use Rattle.disk.specs.Steps.{files}
 use Rattle.appending.specs.Room.{lacking_of, lacking_all, no_room, low_of, end_of, lacking_in}

@@ -42,7 +42,8 @@ use Rattle.seen.specs.Puts.{put-found, put-inside, put_is, put-frame, put-rows, 
 use Rattle.seen.specs.Lacking.{room-left, same-lacking, open-lacking, other-lacking, but-one}
 use Rattle.seen.specs.Rooms.{Roomy}
 use Rattle.seen.specs.Rows.{size-row, touched-as, open-named}
-use Rattle.joins.specs.Ranges.{lacking-last, last-part}
+use Rattle.joins.specs.Ranges.{last-part}
+use Rattle.joins.proofs.Ranges.{lacking-last}
 
 -- no more is unwritten than was, and what was put
 unwritten-most : (r : RingBuffer) (unwritten n : ℕ) → unwritten_after r unwritten n ≤ unwritten + n

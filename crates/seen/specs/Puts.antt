@@ -37,7 +37,8 @@ use Rattle.touches.specs.Puts.{put-leaves-session, put-leaves-disk}
 use Rattle.held.specs.Held.{Held, put_held}
 use Rattle.joins.specs.FilesAt.{files_at, held_at}
 use Rattle.joins.specs.Writes.{Grown}
-use Rattle.joins.specs.Sends.{Lacks, sent-files}
+use Rattle.joins.specs.Sends.{Lacks}
+use Rattle.joins.proofs.Sends.{sent-files}
 use Rattle.joins.specs.Caches.{PutsIn, puts-in}
 use Rattle.lives.specs.Life.{Writer, appending, Store, After, Done, put, step, then}
 use Rattle.lives.specs.Told.{Told, Staging}
@@ -51,7 +52,7 @@ use Rattle.seen.specs.Handles.{handle-number, handle-own, handle-at}
 use Rattle.seen.specs.Touching.{OnHandle, Leads, staged_len, append-writer, its-live, its-rows, its-base, Touching, staged, writer_with, seen-touching, seen-others}
 use Rattle.seen.specs.Lacking.{lacking-each, room-left}
 use Rattle.seen.specs.Kinds.{writes-kind, writes_as, writes-open}
-use Rattle.joins.specs.Ranges.{lacking-last}
+use Rattle.joins.proofs.Ranges.{lacking-last}
 
 -- ---- the model's
 

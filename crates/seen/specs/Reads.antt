@@ -274,8 +274,8 @@ module _ (d s n : List ℕ) (letters : 0 < length n) (o : Orderly d s) (t : Told
       → (out : List ℕ) → filled d s tape.place i count out ≡ put out 0 (take (count * entry) (drop (i * entry) q.content))
   filled-with k i count q is low high out = rw tape.entry-size (ap (put out 0) (page-served k (i * entry) (count * entry) q is low high).1)
 
-  entry_at : (handle_of s tape.place).entry ≡ entry
-  entry_at = handle-entry s tape.place (handle_of s tape.place) refl ∙ tape.entry-size
+  entry_at_lem : (handle_of s tape.place).entry ≡ entry
+  entry_at_lem = handle-entry s tape.place (handle_of s tape.place) refl ∙ tape.entry-size
 
   -- an append is told where it begins
   pub put-answer : (k : ℕ) (here : Bool) (c : List ℕ) (start : ℕ) → t.writer ≡ appending k here c start → (bs : List ℕ) (v : ℕ) → (put_call d s k h bs).answer ≡ Done v
@@ -320,14 +320,14 @@ module _ (d s n : List ℕ) (letters : 0 < length n) (o : Orderly d s) (t : Told
         let x = sees k q is here in
         len-goes d s k h ok x.place x.found tape.place tape.found
         ∙ len-listed s x.place tape.place (view_p q) (sym x.view) refl
-        ∙ ap (λ (m : ℕ). Done (length q.content / m)) entry_at
+        ∙ ap (λ (m : ℕ). Done (length q.content / m)) entry_at_lem
 
     pub start-served : (k : ℕ) (q : Page) → page k t ≡ some q → q.here ≡ true → start_call d s k h ≡ Done (q.start / entry)
     start-served k q is here =
         let x = sees k q is here in
         start-goes d s k h ok x.place x.found tape.place tape.found
         ∙ start-listed s x.place tape.place (view_p q) (sym x.view) refl
-        ∙ ap (λ (m : ℕ). Done (q.start / m)) entry_at
+        ∙ ap (λ (m : ℕ). Done (q.start / m)) entry_at_lem
 
     -- the last entry, and the rest staged
     module _ (k : ℕ) (c : List ℕ) (writer : t.writer ≡ cutting k c) where

@@ -87,15 +87,15 @@ tapes-apart before (x ∷ xs) good (suc i) zero t u e f same =
 tapes-apart before (x ∷ xs) good (suc i) (suc j) t u e f same = ap suc (tapes-apart x.name xs (good_others before x xs good) i j t u e f same)
 
 -- the list's word on the name of one of its tapes
-listed_at : (n before : List ℕ) (ts : List Tape) → good_after before ts ≡ true → (i : ℕ) (t : Tape) → get_elem? ts i ≡ some t → t.name ≡ n → listed_as n ts ≡ word_of t
-listed_at n before [] good i t e has = let z : ◌≡◌ {A = ℕ} 0 1 = cc in absurd (omega arith)
-listed_at n before (u ∷ us) good zero t e has =
+listed_at_lem : (n before : List ℕ) (ts : List Tape) → good_after before ts ≡ true → (i : ℕ) (t : Tape) → get_elem? ts i ≡ some t → t.name ≡ n → listed_as n ts ≡ word_of t
+listed_at_lem n before [] good i t e has = let z : ◌≡◌ {A = ℕ} 0 1 = cc in absurd (omega arith)
+listed_at_lem n before (u ∷ us) good zero t e has =
     let same : u ≡ t = cc in
     listed-hit n u us (ap (λ (x : Tape). x.name) same ∙ has) ∙ ap word_of same
-listed_at n before (u ∷ us) good (suc i) t e has =
+listed_at_lem n before (u ∷ us) good (suc i) t e has =
     let rest = good_others before u us good in
     listed-miss n u us (λ q. not_behind u.name t.name (all-behind u.name us rest i t e) (q ∙ sym has))
-    ∙ listed_at n u.name us rest i t e has
+    ∙ listed_at_lem n u.name us rest i t e has
 
 -- and on any other
 listed-out : (n : List ℕ) (ts : List Tape) → ((i : ℕ) (t : Tape) → i < length ts → get_elem? ts i ≡ some t → t.name ≡ n → ⊥) → listed_as n ts ≡ no_view
@@ -203,7 +203,7 @@ module _ (d s : List ℕ) (bytes : Bytes d) (served : code_of (store_call d s).a
           let low = name-low u names_at n p e in
           let has = found_name u names_at n p e in
           let one = named-tape p low (rw has long) in
-          listed_at n [] ts good p one.tape one.at (sym one.has ∙ has)
+          listed_at_lem n [] ts good p one.tape one.at (sym one.has ∙ has)
           ∙ sym (ap shown (list-stored p low ∙ ap view_for one.at))
       by Nothing e =
           listed-out n ts

@@ -21,7 +21,8 @@ use Rattle.session.specs.declared.transactions.Kind.TheVariants.{Truncate}
 use Rattle.session.specs.Rows.{head_of, view_of, transaction_of, handle_of, staged_of, find_transaction, free_reader}
 use Rattle.beginning.specs.Calls.{append_call, reader_call}
 use Rattle.beginning.specs.Ways.{free-low}
-use Rattle.beginning.specs.Laws.{refusal-some, append_cases}
+use Rattle.beginning.specs.Laws.{refusal-some}
+use Rattle.beginning.proofs.Laws.{append_cases}
 use Rattle.beginning.specs.Transactions.{is_open_at, usable}
 use Rattle.beginning.specs.Transactions as Real
 use Rattle.staging.specs.Seeing.{is_append, touched_as, writes, cuts}

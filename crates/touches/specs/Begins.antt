@@ -26,7 +26,8 @@ use Rattle.beginning.specs.Transactions.{begun_at}
 use Rattle.beginning.specs.Calls.{append_call, truncate_call, reader_call}
 use Rattle.beginning.specs.Sessions.{the_record, store_call}
 use Rattle.beginning.specs.Ways.{both-session, free-low}
-use Rattle.beginning.specs.Laws.{next_head, append_cases, truncate-cases, reader-cases, may-long}
+use Rattle.beginning.specs.Laws.{next_head, truncate-cases, reader-cases, may-long}
+use Rattle.beginning.proofs.Laws.{append_cases}
 use Rattle.beginning.specs.StoreLaws.{store-cases, list-good}
 use Rattle.touches.specs.Parts.{Part, Inside, Outside, Touches, Stays, mark, head, names, view_of, transaction_of, tapes, tracking, rings, below_rings, tables, found, stays, touches_none, touches-then, touches-only, one-touches}
 

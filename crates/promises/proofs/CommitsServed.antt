@@ -18,15 +18,17 @@ use Rattle.lives.specs.Told as T
 use Rattle.lives.specs.Invariant.{Phys, Good, build, erase_w}
 use Rattle.lives.specs.Reads.{tied-blank}
 use Rattle.seen.specs.Seen.{Seen}
-use Rattle.ended.specs.Commitable.{commit-append-serves, commit-truncate-serves, append-bounded, truncate-bounded}
+use Rattle.ended.specs.Commitable.{append-bounded, truncate-bounded}
+use Rattle.ended.proofs.Commitable.{commit-append-serves, commit-truncate-serves}
 use Rattle.promises.specs.Calls.{commit, step}
 use Rattle.promises.specs.Told.{Known, unknown}
 use Rattle.promises.specs.Standing.{Lore, Running, Standing, running, formatted}
-use Rattle.promises.specs.Runs.{stands-last}
+use Rattle.promises.proofs.Runs.{stands-last}
 use Rattle.promises.specs.Promise.{ends, known, is_writer, CommitsServed}
 use Rattle.seen.specs.Kinds.{writes-kind, writes_as, writes-open, cuts-as, cuts-open}
 use Rattle.seen.specs.Reads.{seen-writes, seen-cuts}
-use Rattle.promises.specs.Furnished.{Furnished, furnished}
+use Rattle.promises.specs.Furnished.{Furnished}
+use Rattle.promises.proofs.Furnished.{furnished}
 
 -- the told writer is in the writer's place, as an append or as a truncate
 module _ (d s n : List ℕ) (t : Told) (p : Phys) (seen : Seen d s n (build t p)) where

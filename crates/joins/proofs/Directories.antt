@@ -42,7 +42,7 @@ use Rattle.ending.specs.StepLaws.{Whole}
 use Rattle.joins.specs.FilesAt.{files_at, Once}
 use Rattle.joins.specs.Tracks.{Changed, changed_then, retracked_at, trackings-retracked, whole-retracked, changed-track, changed-mark}
 use Rattle.joins.specs.Freed.{Single, once-single, single-once, slot-left, slot-never, Thinned, changed-thinned}
-use Rattle.joins.specs.Removes.{changed-removed}
+use Rattle.joins.proofs.Removes.{changed-removed}
 
 -- ---- names that stay
 

@@ -27,11 +27,12 @@ use Rattle.promises.specs.Calls.{Call, append_entries, AllFit, step, exchange, r
 use Rattle.promises.specs.Told.{Known, unknown, Concern, apart, anew, opens, calls, concerns, is_ours, tell_as, tell_one, tell, OldSizes}
 use Rattle.promises.specs.Standing.{Lore, Running, Standing}
 use Rattle.promises.specs.Promise.{ends, known, is_writer, AllServed, keeps_open, TwoPlaces}
-use Rattle.promises.specs.Steps.{stands, tell-served}
-use Rattle.promises.specs.Runs.{runs, stands-last}
-use Rattle.promises.specs.Reading.{with-handle}
+use Rattle.promises.proofs.Steps.{stands, tell-served}
+use Rattle.promises.proofs.Runs.{runs, stands-last}
+use Rattle.promises.proofs.Reading.{with-handle}
 use Rattle.promises.specs.Wholes.{put-entire}
-use Rattle.promises.specs.StaysOpen.{KeepsCall, KeepsTape, KeptOpen, lasts, handle-kept}
+use Rattle.promises.specs.StaysOpen.{KeepsCall, KeepsTape, KeptOpen, handle-kept}
+use Rattle.promises.proofs.StaysOpen.{lasts}
 
 -- ---- what an append has staged only grows
 

@@ -6,11 +6,12 @@ use Rattle.std.proofs.Math.Nat.{div-mul_cancel}
 use Rattle.lives.specs.Told.{Staging}
 use Rattle.promises.specs.Told.{staged_length}
 use Rattle.promises.specs.Promise.{ends, known, Puts}
-use Rattle.promises.specs.Runs.{stands-last}
-use Rattle.promises.specs.Always.{always}
-use Rattle.promises.specs.Reading.{with-handle}
-use Rattle.promises.specs.Others.{put-running}
-use Rattle.promises.specs.Wholes.{WholeIn, wholes}
+use Rattle.promises.proofs.Runs.{stands-last}
+use Rattle.promises.proofs.Always.{always}
+use Rattle.promises.proofs.Reading.{with-handle}
+use Rattle.promises.proofs.Others.{put-running}
+use Rattle.promises.specs.Wholes.{WholeIn}
+use Rattle.promises.proofs.Wholes.{wholes}
 
 pub puts : Puts
 puts r n long t bs c here start handle writer served =

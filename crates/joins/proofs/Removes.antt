@@ -13,7 +13,7 @@ use Rattle.octets.specs.declared.Found.{Found}
 use Rattle.octets.specs.declared.Found.TheVariants.{At, Nothing}
 use Rattle.layout.specs.Disk.{slots, Sound}
 use Rattle.components.specs.Files.{File, gone, remove}
-use Rattle.components.specs.MarkLaws.{remove-gone, remove-kept, kept-untracked}
+use Rattle.components.proofs.MarkLaws.{remove-gone, remove-kept, kept-untracked}
 use Rattle.disk.specs.Steps.{removed}
 use Rattle.disk.specs.Meaning.{Disk, free, disk_of, slot_with}
 use Rattle.disk.specs.MeaningLaws.{owner-in, slots-in, disk-removed}
@@ -31,7 +31,8 @@ use Rattle.ending.specs.StepLaws.{Whole}
 use Rattle.joins.specs.FilesAt.{files_at, Once}
 use Rattle.joins.specs.Tracks.{Changed}
 use Rattle.joins.specs.Freed.{once-single, slot-left, slot-stays, slot-never, Thinned, changed-thinned}
-use Rattle.joins.specs.Ripe.{SlotRow, no_slot_row, row_at, stops_row, stopping, going, going-mine, going-ripe, ripe-stops, going-bytes, going-removes, all_same}
+use Rattle.joins.specs.Ripe.{SlotRow, no_slot_row, row_at, stops_row, stopping, going, going-mine, going-ripe, ripe-stops, going-bytes, all_same}
+use Rattle.joins.proofs.Ripe.{going-removes}
 
 -- ---- the sweep
 

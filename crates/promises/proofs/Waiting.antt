@@ -26,7 +26,8 @@ use Rattle.lives.specs.Life.{Reader, Writer, Store, step_append, epochs}
 use Rattle.lives.specs.Life as L
 use Rattle.lives.specs.Told.{Window, idle, Told, nothing, before, quiet}
 use Rattle.lives.specs.Invariant.{erase, erase_w, build}
-use Rattle.lives.specs.Waits.{Asked, busy, wait, go, asked, told-wait, let-in, kept_out, before-is, is-before, none_before, some-before}
+use Rattle.lives.specs.Waits.{Asked, busy, wait, go, told-wait, let-in, kept_out, before-is, is-before, none_before, some-before}
+use Rattle.lives.proofs.Waits.{asked}
 use Rattle.seen.specs.Seen.{place_of, count_in}
 use Rattle.seen.specs.Orderly.{Orderly, orderly-usable}
 use Rattle.seen.specs.Counts.{in-member, open-some}
@@ -38,8 +39,8 @@ use Rattle.promises.specs.Told.{Known, unknown, Concern, apart, opens, calls, is
 use Rattle.promises.specs.Holds.{Holds}
 use Rattle.promises.specs.Standing.{Lore, Running, Formatted, Standing, running, formatted, running-last}
 use Rattle.promises.specs.Since.{Since, New, since-same, since-then, since-told}
-use Rattle.promises.specs.Steps.{tell-refused, tell-served, stands}
-use Rattle.promises.specs.Runs.{stands-last, stands-then}
+use Rattle.promises.proofs.Steps.{tell-refused, tell-served, stands}
+use Rattle.promises.proofs.Runs.{stands-last, stands-then}
 use Rattle.promises.specs.Promise.{Run, ends, known, Further, ends_then, known_then, is_open, is_quiet, Quiet, earlier, Waiting, Waits, AppendWaits}
 
 -- ---- quiet calls

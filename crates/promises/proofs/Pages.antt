@@ -28,10 +28,11 @@ use Rattle.promises.specs.Calls.{read_entries, Result, result, of_reading, step}
 use Rattle.promises.specs.Told.{Known, unknown, Concern, apart, anew, opens, calls, tell_as}
 use Rattle.promises.specs.Standing.{Lore, Running, Standing, running, formatted, running-last}
 use Rattle.promises.specs.Promise.{ends, known, ends_then, known_then, is_open, is_writer, PageStands, ReadsAgain}
-use Rattle.promises.specs.Runs.{stands-last, stands-then}
-use Rattle.promises.specs.Reading.{front, with-handle, reads}
-use Rattle.promises.specs.CommitsServed.{told-open}
-use Rattle.promises.specs.StaysOpen.{KeepsCall, KeepsTape, KeptOpen, lasts, handle-kept}
+use Rattle.promises.proofs.Runs.{stands-last, stands-then}
+use Rattle.promises.proofs.Reading.{front, with-handle, reads}
+use Rattle.promises.proofs.CommitsServed.{told-open}
+use Rattle.promises.specs.StaysOpen.{KeepsCall, KeepsTape, KeptOpen, handle-kept}
+use Rattle.promises.proofs.StaysOpen.{lasts}
 
 -- ---- a window in a running session
 

@@ -5,7 +5,7 @@ use Rattle.promises.specs.Calls.{Call, AllFit, step, exchange, run, history}
 use Rattle.promises.specs.Told.{unknown, tell_one, tell, OldSizes}
 use Rattle.promises.specs.Standing.{Lore, Standing, formatted}
 use Rattle.promises.specs.Sessions.{format-runs}
-use Rattle.promises.specs.Steps.{stands}
+use Rattle.promises.proofs.Steps.{stands}
 use Rattle.promises.specs.Promise.{Run, begins, ends, known, Further, ends_then, known_then}
 
 pub runs : (cs : List Call) (a : Areas) (K : Lore) → AllFit cs → ((n : List ℕ) → OldSizes n (history cs a) (K n)) → Standing a K

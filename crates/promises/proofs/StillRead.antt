@@ -15,7 +15,8 @@ use Rattle.session.specs.Rows.{head_of}
 use Rattle.rolling_tape.specs.Removal.{Areas, areas}
 use Rattle.beginning.specs.Sessions.{store_call}
 use Rattle.beginning.specs.Calls.{append_call}
-use Rattle.beginning.specs.Laws.{refusal-some, append_cases}
+use Rattle.beginning.specs.Laws.{refusal-some}
+use Rattle.beginning.proofs.Laws.{append_cases}
 use Rattle.staging.specs.Seeing.{writes}
 use Rattle.opening.specs.Calls.{open_call}
 use Rattle.restarts.specs.Level.{store-head}
@@ -36,9 +37,9 @@ use Rattle.promises.specs.Sessions.{store-runs}
 use Rattle.promises.specs.Transactions.{append-runs}
 use Rattle.promises.specs.Opening.{open-runs}
 use Rattle.promises.specs.Promise.{ends, known, StillRead}
-use Rattle.promises.specs.Runs.{stands-last}
-use Rattle.promises.specs.Reading.{read-running}
-use Rattle.promises.specs.Furnished.{furnished}
+use Rattle.promises.proofs.Runs.{stands-last}
+use Rattle.promises.proofs.Reading.{read-running}
+use Rattle.promises.proofs.Furnished.{furnished}
 
 -- ---- the append behind the store
 

@@ -16,8 +16,8 @@ use Rattle.seen.specs.Reads.{entry-served, pop-served, put-answer}
 use Rattle.promises.specs.Calls.{append_entries, pop_entry, read_entry, Result, result, of_entering, of_popping, step}
 use Rattle.promises.specs.Standing.{Lore, Running, its-place}
 use Rattle.promises.specs.Promise.{ends, known, ReadsOne, Pops}
-use Rattle.promises.specs.Runs.{stands-last}
-use Rattle.promises.specs.Reading.{front, with-handle}
+use Rattle.promises.proofs.Runs.{stands-last}
+use Rattle.promises.proofs.Reading.{front, with-handle}
 
 -- a served answer is its value
 done-value : (a : Answer) → code_of a ≡ 0 → a ≡ Done (value_of a)

@@ -1,17 +1,17 @@
 -- Demand 3, proved: what `Promise.antt` states, as one theorem. Assumes nothing.
 use Rattle.promises.specs.Promise.{Promised}
-use Rattle.promises.specs.Reading.{reads}
-use Rattle.promises.specs.Waiting.{waits, append-waits}
-use Rattle.promises.specs.Rooms.{commits}
-use Rattle.promises.specs.CommitsServed.{commits-served}
-use Rattle.promises.specs.Others.{reads-one, pops}
-use Rattle.promises.specs.OneElse.{reads-one-else, pops-none, lengths}
-use Rattle.promises.specs.Outside.{reads-else}
-use Rattle.promises.specs.Pages.{page-stands, reads-again}
-use Rattle.promises.specs.Puts.{puts}
-use Rattle.promises.specs.Places.{two-places}
-use Rattle.promises.specs.Serves.{puts-find, reopens, closes}
-use Rattle.promises.specs.StillRead.{still_read}
+use Rattle.promises.proofs.Reading.{reads}
+use Rattle.promises.proofs.Waiting.{waits, append-waits}
+use Rattle.promises.proofs.Rooms.{commits}
+use Rattle.promises.proofs.CommitsServed.{commits-served}
+use Rattle.promises.proofs.Others.{reads-one, pops}
+use Rattle.promises.proofs.OneElse.{reads-one-else, pops-none, lengths}
+use Rattle.promises.proofs.Outside.{reads-else}
+use Rattle.promises.proofs.Pages.{page-stands, reads-again}
+use Rattle.promises.proofs.Puts.{puts}
+use Rattle.promises.proofs.Places.{two-places}
+use Rattle.promises.proofs.Serves.{puts-find, reopens, closes}
+use Rattle.promises.proofs.StillRead.{still_read}
 use Rattle.promises.specs.Leaves.{refused-leaves}
 
 pub promised : Promised

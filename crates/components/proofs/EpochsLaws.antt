@@ -6,7 +6,7 @@ use mathlib.Core.List.Memᴰ
 use mathlib.Core.List.{List, [], ◌∷◌, ◌++◌, Memᴰ}
 use Rattle.octets.specs.Cases.{picked, decide, order}
 use Rattle.components.specs.Files.{Files, removes}
-use Rattle.components.specs.MarkLaws.{kept-young}
+use Rattle.components.proofs.MarkLaws.{kept-young}
 use Rattle.components.specs.Epochs.{older, least, oldest_other}
 
 -- ---- older readers

@@ -28,9 +28,9 @@ use Rattle.promises.specs.Calls.{open_tape, append_entries, drop_transaction, st
 use Rattle.promises.specs.Told.{Known, unknown}
 use Rattle.promises.specs.Standing.{Standing, running, formatted}
 use Rattle.promises.specs.Always.{no-session}
-use Rattle.promises.specs.Furnished.{furnished}
-use Rattle.promises.specs.CommitsServed.{told_writes, told-open}
-use Rattle.promises.specs.Runs.{stands-last}
+use Rattle.promises.proofs.Furnished.{furnished}
+use Rattle.promises.proofs.CommitsServed.{told_writes, told-open}
+use Rattle.promises.proofs.Runs.{stands-last}
 use Rattle.promises.specs.Promise.{ends, is_writer, PutsFind, Closes, Reopens}
 use Rattle.promises.specs.Promise as P
 use Rattle.seen.specs.Transactions.{HasPlace, find-transaction}

@@ -10,7 +10,7 @@ use Rattle.promises.specs.Calls.{read_entries, result, of_reading, step}
 use Rattle.promises.specs.Told.{Known, unknown}
 use Rattle.promises.specs.Standing.{Lore, Running, Formatted, Standing, running, formatted}
 use Rattle.promises.specs.Promise.{ends, known, Reads}
-use Rattle.promises.specs.Runs.{stands-last}
+use Rattle.promises.proofs.Runs.{stands-last}
 
 -- bytes of a page, at the front of a buffer
 pub front : (content buffer : List ℕ) (o n : ℕ) → o + n ≤ length content → n ≤ length buffer → put buffer 0 (take n (drop o content)) ≡ take n (drop o content) ++ drop n buffer

@@ -21,10 +21,10 @@ use Rattle.seen.specs.Reads.{view_p, one_place, sight, len-served, start-served}
 use Rattle.promises.specs.Calls.{pop_entry, read_entry, tape_len, tape_start, result, of_answer, of_entering, of_popping, step}
 use Rattle.promises.specs.Standing.{Lore, Running, its-place, its-life}
 use Rattle.promises.specs.Promise.{ends, known, PopsNone, ReadsOneElse, Lengths}
-use Rattle.promises.specs.Runs.{stands-last}
-use Rattle.promises.specs.Reading.{with-handle}
+use Rattle.promises.proofs.Runs.{stands-last}
+use Rattle.promises.proofs.Reading.{with-handle}
 use Rattle.promises.specs.Outside.{Beyond, beyond-read}
-use Rattle.promises.specs.CommitsServed.{told_cuts}
+use Rattle.promises.proofs.CommitsServed.{told_cuts}
 use Rattle.seen.specs.Orderly.{orderly-usable}
 use Rattle.seen.specs.Transactions.{find-transaction}
 

@@ -1,0 +1,5 @@
+pub mod Ranges
+pub mod Sends
+pub mod Ripe
+pub mod Removes
+pub mod Directories
