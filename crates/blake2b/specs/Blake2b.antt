@@ -1,6 +1,6 @@
 -- RFC 7693 section 3: the mixing function G, the compression function F, padding, and BLAKE2b of a key and a message. Words stand in lists,
--- `get_or v a 0` is the RFC's v[a] and `set v a x` its v[a] := x. Assumes nothing.
-use Rattle.std.specs.Prelude.{ℕ, zero, suc, ◌+◌, ◌-◌, ◌*◌, ◌/◌, ◌%◌, ◌^◌, max, Bool, true, false, List, [], ◌∷◌, ◌++◌, length, take, drop, set, replicate, slice_index, slice_set}
+-- `slice_index v a` is the RFC's v[a] and `slice_set v a x` its v[a] := x. Assumes nothing.
+use Rattle.std.specs.Prelude.{ℕ, zero, suc, ◌+◌, ◌-◌, ◌*◌, ◌/◌, ◌%◌, ◌^◌, max, Bool, true, false, List, [], ◌∷◌, ◌++◌, length, take, drop, replicate, slice_index, slice_set}
 use Rattle.octets.specs.Number.{le, num_at}
 use Rattle.blake2b.specs.Words.{w, xor, shl, rotr}
 use Rattle.blake2b.specs.Constants.{r, bb, R1, R2, R3, R4, IV, SIGMA}

@@ -5,8 +5,8 @@ use Rattle.std.proofs.lemmas.Bool.{lt-leb}
 use Rattle.std.proofs.Math.ListN.{length-take, get_or-append, get_or-eq_default}
 use Rattle.std.proofs.lemmas.List.{length-replicate}
 use Rattle.std.proofs.Math.Seq.{drop-nil, get_or-take, get_or-drop}
-use Rattle.octets.specs.Bytes.{put, length-put, get_d-put-in, get_d-put-other}
-use Rattle.octets.specs.Number.{get_d-zeros}
+use Rattle.octets.specs.Bytes.{put, length-put, get_or-put-in, get_or-put-other}
+use Rattle.octets.specs.Number.{get_or-zeros}
 use Rattle.blake2b.specs.Blake2b.{pad, keyed, block_from}
 
 -- the lengths of a key and of a message's two parts whose bytes, the padded key's among them, can be counted in a word with a block to spare
@@ -36,27 +36,27 @@ length-laid [] at part from = refl
 length-laid (b ∷ block) at part from = ap suc (length-laid block (at + 1) part from)
 
 -- a byte that the part has
-pub get_d-laid-in : (block : List ℕ) (at : ℕ) (part : List ℕ) (from j : ℕ) → j < length block → from ≤ at + j → at + j < from + length part → slice_index (laid block at part from) j ≡ slice_index part (at + j - from)
+pub get_or-laid-in : (block : List ℕ) (at : ℕ) (part : List ℕ) (from j : ℕ) → j < length block → from ≤ at + j → at + j < from + length part → slice_index (laid block at part from) j ≡ slice_index part (at + j - from)
 unfolding laid
-get_d-laid-in [] at part from j h l m = absurd (omega arith)
-get_d-laid-in (b ∷ block) at part from zero h l m =
+get_or-laid-in [] at part from j h l m = absurd (omega arith)
+get_or-laid-in (b ∷ block) at part from zero h l m =
     let e : at + zero ≡ at = omega arith in
     rw (e, le-leb from at (omega arith), lt-ltb (at - from) (length part) (omega arith))
-get_d-laid-in (b ∷ block) at part from (suc j) h l m =
+get_or-laid-in (b ∷ block) at part from (suc j) h l m =
     let e : at + suc j ≡ at + 1 + j = omega arith in
-    rw e (get_d-laid-in block (at + 1) part from j (omega arith) (omega arith) (omega arith))
+    rw e (get_or-laid-in block (at + 1) part from j (omega arith) (omega arith) (omega arith))
 
 -- a byte before the part or behind it
-pub get_d-laid-out : (block : List ℕ) (at : ℕ) (part : List ℕ) (from j : ℕ) → (from ≤ at + j → from + length part ≤ at + j) → slice_index (laid block at part from) j ≡ slice_index block j
+pub get_or-laid-out : (block : List ℕ) (at : ℕ) (part : List ℕ) (from j : ℕ) → (from ≤ at + j → from + length part ≤ at + j) → slice_index (laid block at part from) j ≡ slice_index block j
 unfolding laid
-get_d-laid-out [] at part from j h = refl
-get_d-laid-out (b ∷ block) at part from zero h =
+get_or-laid-out [] at part from j h = refl
+get_or-laid-out (b ∷ block) at part from zero h =
     ⊎_elim
     (λ (l : from ≤ at). rw (le-leb from at l, le-ltb (at - from) (length part) (omega (arith, h (omega arith)))))
     (λ (l : at < from). rw (lt-leb from at l))
     (le-or-lt from at)
-get_d-laid-out (b ∷ block) at part from (suc j) h =
-    get_d-laid-out block (at + 1) part from j (λ l. omega (arith, h (omega arith)))
+get_or-laid-out (b ∷ block) at part from (suc j) h =
+    get_or-laid-out block (at + 1) part from j (λ l. omega (arith, h (omega arith)))
 
 -- ---- what is laid is one run: n bytes, from the place b of the part to the place a of the block
 
@@ -68,10 +68,10 @@ module _ (block : List ℕ) (at : ℕ) (part : List ℕ) (from a b n : ℕ) (mee
   inside k l =
       let long = length_run in
       let there : at + (a + k) - from ≡ b + k = omega arith in
-      get_d-laid-in block at part from (a + k) (omega arith) (omega arith) (omega arith)
+      get_or-laid-in block at part from (a + k) (omega arith) (omega arith) (omega arith)
       ∙ ap (λ (i : ℕ). slice_index part i) there
       ∙ sym
-      (get_d-put-in block a (take n (drop b part)) k 0 (omega arith) (omega arith)
+      (get_or-put-in block a (take n (drop b part)) k 0 (omega arith) (omega arith)
       ∙ get_or-take n (drop b part) k 0 l
       ∙ get_or-drop b part k 0)
 
@@ -85,8 +85,8 @@ module _ (block : List ℕ) (at : ℕ) (part : List ℕ) (from a b n : ℕ) (mee
 
     outside : (j : ℕ) → (from ≤ at + j → from + length part ≤ at + j) → (a ≤ j → a + n ≤ j) → slice_index (laid block at part from) j ≡ slice_index (put block a (take n (drop b part))) j
     outside j o p =
-        get_d-laid-out block at part from j o
-        ∙ sym (get_d-put-other block a (take n (drop b part)) j 0 (λ m. omega (arith, length_run, p m)))
+        get_or-laid-out block at part from j o
+        ∙ sym (get_or-put-other block a (take n (drop b part)) j 0 (λ m. omega (arith, length_run, p m)))
 
     byte : (j : ℕ) → j < length block → slice_index (laid block at part from) j ≡ slice_index (put block a (take n (drop b part))) j
     byte j l =
@@ -111,21 +111,21 @@ module _ (block : List ℕ) (at : ℕ) (part : List ℕ) (from a b n : ℕ) (mee
 pub laid_none : (block : List ℕ) (at : ℕ) (part : List ℕ) (from : ℕ) → ((j : ℕ) → j < length block → from ≤ at + j → from + length part ≤ at + j) → laid block at part from ≡ block
 laid_none block at part from h =
     ext_get_or 0 (laid block at part from) block (length-laid block at part from)
-    (λ j l. get_d-laid-out block at part from j (λ m. h j (omega (arith, length-laid block at part from)) m))
+    (λ j l. get_or-laid-out block at part from j (λ m. h j (omega (arith, length-laid block at part from)) m))
 
 -- ---- the bytes of a block: those of the data, and zeros behind its end
 
 -- padding reads like what is behind the end of any list
-pub get_d-pad : (s : List ℕ) (j : ℕ) → slice_index (pad s) j ≡ slice_index s j
+pub get_or-pad : (s : List ℕ) (j : ℕ) → slice_index (pad s) j ≡ slice_index s j
 unfolding pad
-get_d-pad s j =
+get_or-pad s j =
     ⊎_elim
     (λ (l : length s ≤ j).
     let k : ℕ = j - length s in
     let e : length s + k ≡ j = omega arith in
     ap (λ (i : ℕ). slice_index (s ++ replicate (128 - length s) 0) i) (sym e)
     ∙ get_or-append-add s (replicate (128 - length s) 0) k 0
-    ∙ get_d-zeros (128 - length s) k
+    ∙ get_or-zeros (128 - length s) k
     ∙ sym (get_or-eq_default s 0 l))
     (λ (l : j < length s). get_or-append s (replicate (128 - length s) 0) 0 j l)
     (le-or-lt (length s) j)
@@ -139,9 +139,9 @@ module _ (s : List ℕ) (at : ℕ) where
   unfolding block_from
   length-block = length-pad (take 128 (drop at s)) (simp length-take (omega arith))
 
-  pub get_d-block : (j : ℕ) → j < 128 → slice_index (block_from s at) j ≡ slice_index s (at + j)
+  pub get_or-block : (j : ℕ) → j < 128 → slice_index (block_from s at) j ≡ slice_index s (at + j)
   unfolding block_from
-  get_d-block j l = get_d-pad (take 128 (drop at s)) j ∙ get_or-take 128 (drop at s) j 0 l ∙ get_or-drop at s j 0
+  get_or-block j l = get_or-pad (take 128 (drop at s)) j ∙ get_or-take 128 (drop at s) j 0 l ∙ get_or-drop at s j 0
 
 -- two data that read the same have the same blocks
 pub block_same : (s t : List ℕ) (at : ℕ) → ((j : ℕ) → slice_index s j ≡ slice_index t j) → block_from s at ≡ block_from t at
@@ -149,7 +149,7 @@ block_same s t at h =
     ext_get_or 0 (block_from s at) (block_from t at) (length-block s at ∙ sym (length-block t at))
     (λ j m.
     let l : j < 128 = omega (arith, length-block s at) in
-    get_d-block s at j l ∙ h (at + j) ∙ sym (get_d-block t at j l))
+    get_or-block s at j l ∙ h (at + j) ∙ sym (get_or-block t at j l))
 
 -- a part laid behind the data so far
 pub block-laid : (s part : List ℕ) (at : ℕ) → laid (block_from s at) at part (length s) ≡ block_from (s ++ part) at
@@ -158,7 +158,7 @@ block-laid s part at =
     (length-laid (block_from s at) at part (length s) ∙ length-block s at ∙ sym (length-block (s ++ part) at))
     (λ j m.
     let l : j < 128 = omega (arith, length-block s at, length-laid (block_from s at) at part (length s)) in
-    byte j l ∙ sym (get_d-block (s ++ part) at j l))
+    byte j l ∙ sym (get_or-block (s ++ part) at j l))
   where
     behind : (j : ℕ) → length s ≤ at + j → slice_index (s ++ part) (at + j) ≡ slice_index part (at + j - length s)
     behind j l =
@@ -172,24 +172,24 @@ block-laid s part at =
         (λ (u : length s ≤ at + j).
         ⊎_elim
         (λ (v : length s + length part ≤ at + j).
-        get_d-laid-out (block_from s at) at part (length s) j (λ _. v)
-        ∙ get_d-block s at j l
+        get_or-laid-out (block_from s at) at part (length s) j (λ _. v)
+        ∙ get_or-block s at j l
         ∙ get_or-eq_default s 0 u
         ∙ sym (behind j u ∙ get_or-eq_default part 0 (omega arith)))
-        (λ (v : at + j < length s + length part). get_d-laid-in (block_from s at) at part (length s) j (omega arith) u v ∙ sym (behind j u))
+        (λ (v : at + j < length s + length part). get_or-laid-in (block_from s at) at part (length s) j (omega arith) u v ∙ sym (behind j u))
         (le-or-lt (length s + length part) (at + j)))
         (λ (u : at + j < length s).
-        get_d-laid-out (block_from s at) at part (length s) j (λ (w : length s ≤ at + j). absurd (omega arith))
-        ∙ get_d-block s at j l
+        get_or-laid-out (block_from s at) at part (length s) j (λ (w : length s ≤ at + j). absurd (omega arith))
+        ∙ get_or-block s at j l
         ∙ sym (get_or-append s part 0 (at + j) u))
         (le-or-lt (length s) (at + j))
 
 -- ---- the key: padded, it reads as it is
 
-pub get_d-keyed : (key : List ℕ) (j : ℕ) → slice_index (keyed key) j ≡ slice_index key j
+pub get_or-keyed : (key : List ℕ) (j : ℕ) → slice_index (keyed key) j ≡ slice_index key j
 unfolding keyed
-get_d-keyed [] j = refl
-get_d-keyed (k ∷ ks) j = get_d-pad (k ∷ ks) j
+get_or-keyed [] j = refl
+get_or-keyed (k ∷ ks) j = get_or-pad (k ∷ ks) j
 
 pub length-keyed-none : (key : List ℕ) → length key ≡ 0 → length (keyed key) ≡ 0
 unfolding keyed
@@ -218,7 +218,7 @@ block-of-parts key head tail at =
     let one : laid (replicate 128 0) at key 0 ≡ block_from (keyed key) at
     = ap (λ (b : List ℕ). laid b at key 0) (zeros at)
     ∙ block-laid [] key at
-    ∙ block_same key (keyed key) at (λ j. sym (get_d-keyed key j)) in
+    ∙ block_same key (keyed key) at (λ j. sym (get_or-keyed key j)) in
     let two : laid (laid (replicate 128 0) at key 0) at head (length (keyed key)) ≡ block_from (keyed key ++ head) at
     = ap (λ (b : List ℕ). laid b at head (length (keyed key))) one ∙ block-laid (keyed key) head at in
     ap (λ (b : List ℕ). laid b at tail (length (keyed key) + length head)) two

@@ -8,7 +8,7 @@ use Rattle.std.proofs.Math.Seq.{get_or-append-add}
 use Rattle.layout.specs.Names.{name}
 use Rattle.layout.specs.Session.{names_at, file_size_of}
 use Rattle.ring_buffer.specs.Ring.{nth, nths}
-use Rattle.ring_buffer.specs.RingLaws.{length-nths, get_d-nths}
+use Rattle.ring_buffer.specs.RingLaws.{length-nths, get_or-nths}
 use Rattle.session.specs.Rows.{ring_of, ring_bytes}
 use Rattle.rolling_tape.specs.Reading.{lies, byte_of, read_run}
 use Rattle.rolling_tape.specs.ReadingLaws.{can_read-none, can-lies, length-read_run, read_run-nth}
@@ -57,7 +57,7 @@ module _ (d s : List ℕ) (p o n j : ℕ) (low : j < n) where
       let at : o - r.first + i ≡ o + j - r.first = omega arith in
       ap (λ (m : ℕ). get_or (run ++ cached) m 0) e
       ∙ get_or-append-add run cached i 0
-      ∙ get_d-nths r (ring_bytes s p) (o - r.first) (n - k) i (omega arith)
+      ∙ get_or-nths r (ring_bytes s p) (o - r.first) (n - k) i (omega arith)
       ∙ ap (nth r (ring_bytes s p)) at
 
 -- what is the cache's alone can be read whatever the files are

@@ -8,7 +8,7 @@ use native.Mathlib.Omega.{arith}
 use Rattle.std.proofs.Math.ListN.{length, get_or, replicate, get_or-replicate, get_or-append, get_elem?}
 use Rattle.std.proofs.lemmas.List.{length-replicate, replicate-append-replicate, set-append_left}
 use Rattle.std.proofs.Math.Seq.{get_or-append-add}
-use Rattle.octets.specs.Bytes.{put, length-put, get_d-put-in, get_d-put-other, put-append}
+use Rattle.octets.specs.Bytes.{put, length-put, get_or-put-in, get_or-put-other, put-append}
 use Rattle.components.specs.FileBytes.{written}
 
 -- ---- the byte at a place of a list, there or not
@@ -48,12 +48,12 @@ module _ (f : List ℕ) (at : ℕ) where
   pub written_new : (bs : List ℕ) (j : ℕ) → j < length bs → get_or (written f at bs) (at + j) 0 ≡ get_or bs j 0
   unfolding written
   written_new [] j h = absurd (omega arith)
-  written_new (b ∷ bs) j h = get_d-put-in _ at (b ∷ bs) j 0 (simp (length-append, length-replicate) (omega arith)) h
+  written_new (b ∷ bs) j h = get_or-put-in _ at (b ∷ bs) j 0 (simp (length-append, length-replicate) (omega arith)) h
 
   pub written-old : (bs : List ℕ) (p : ℕ) → p < length f → (at ≤ p → at + length bs ≤ p) → get_or (written f at bs) p 0 ≡ get_or f p 0
   unfolding written
   written-old [] p l h = refl
-  written-old (b ∷ bs) p l h = get_d-put-other _ at (b ∷ bs) p 0 h ∙ get_or-append f _ 0 p l
+  written-old (b ∷ bs) p l h = get_or-put-other _ at (b ∷ bs) p 0 h ∙ get_or-append f _ 0 p l
 
   -- the hole before the first byte written is zeros
   pub written-hole : (bs : List ℕ) (p : ℕ) → 0 < length bs → length f ≤ p → p < at → get_or (written f at bs) p 0 ≡ 0
@@ -61,7 +61,7 @@ module _ (f : List ℕ) (at : ℕ) where
   written-hole [] p more l h = absurd (omega arith)
   written-hole (b ∷ bs) p more l h =
       let e : length f + (p - length f) ≡ p = omega arith in
-      get_d-put-other _ at (b ∷ bs) p 0 (λ q. absurd (omega arith))
+      get_or-put-other _ at (b ∷ bs) p 0 (λ q. absurd (omega arith))
       ∙ ap (λ (x : ℕ). get_or (f ++ replicate (at + length (b ∷ bs) - length f) 0) x 0) (sym e)
       ∙ get_or-append-add f (replicate (at + length (b ∷ bs) - length f) 0) (p - length f) 0
       ∙ get_or-replicate (at + length (b ∷ bs) - length f) (p - length f) 0 0 (omega arith)

@@ -2,7 +2,7 @@
 use Rattle.std.specs.Prelude.{◌≡◌, List, [], ◌∷◌, ℕ, ◌+◌, ◌-◌, ◌≤◌, ◌<◌, max, length, get_or, take, drop, replicate}
 use Rattle.std.proofs.Common.{sym, ap, ◌∙◌, add-zero, arith, get_or-take, get_or-drop, ext_get_or}
 use Rattle.std.proofs.lemmas.List.{length-replicate, get_or-replicate}
-use Rattle.octets.specs.Bytes.{put, length-put, length_part, get_d-put-in, get_d-put-other}
+use Rattle.octets.specs.Bytes.{put, length-put, length_part, get_or-put-in, get_or-put-other}
 use Rattle.octets.specs.Cases.{order}
 use Rattle.components.specs.FileBytes.{written}
 use Rattle.components.proofs.FileBytesLaws.{written_none, length-written, written_new, written-old, written-hole}
@@ -28,8 +28,8 @@ module _ (s : List ℕ) (a n at : ℕ) (bs : List ℕ) where
     byte-kept : (p : ℕ) → p < n → (at ≤ p → at + length bs ≤ p) → get_or grown (a + p) 0 ≡ get_or (written (take n (drop a s)) at bs) p 0
     byte-kept p l h =
         let old = length-old in
-        get_d-put-other _ (a + at) bs (a + p) 0 (λ q. omega (arith, h (omega arith)))
-        ∙ get_d-put-other s (a + n) _ (a + p) 0 (λ q. absurd (omega arith))
+        get_or-put-other _ (a + at) bs (a + p) 0 (λ q. omega (arith, h (omega arith)))
+        ∙ get_or-put-other s (a + n) _ (a + p) 0 (λ q. absurd (omega arith))
         ∙ sym (byte-old p l)
         ∙ sym (written-old (take n (drop a s)) at bs p (omega arith) h)
 
@@ -38,9 +38,9 @@ module _ (s : List ℕ) (a n at : ℕ) (bs : List ℕ) where
         let old = length-old in
         let e : a + p ≡ a + n + (p - n) = omega arith in
         let k : p - n < at - n = omega arith in
-        get_d-put-other _ (a + at) bs (a + p) 0 (λ q. absurd (omega arith))
+        get_or-put-other _ (a + at) bs (a + p) 0 (λ q. absurd (omega arith))
         ∙ ap (λ (x : ℕ). get_or (put s (a + n) (replicate (at - n) 0)) x 0) e
-        ∙ get_d-put-in s (a + n) (replicate (at - n) 0) (p - n) 0 (rw (length-replicate {A = ℕ} (at - n) 0) (omega arith)) (rw (length-replicate {A = ℕ} (at - n) 0) k)
+        ∙ get_or-put-in s (a + n) (replicate (at - n) 0) (p - n) 0 (rw (length-replicate {A = ℕ} (at - n) 0) (omega arith)) (rw (length-replicate {A = ℕ} (at - n) 0) k)
         ∙ get_or-replicate (at - n) (p - n) 0 0 k
         ∙ sym (written-hole (take n (drop a s)) at bs p more (omega arith) h)
 
@@ -49,7 +49,7 @@ module _ (s : List ℕ) (a n at : ℕ) (bs : List ℕ) where
         let e : a + p ≡ a + at + (p - at) = omega arith in
         let f : at + (p - at) ≡ p = omega arith in
         ap (λ (x : ℕ). get_or grown x 0) e
-        ∙ get_d-put-in _ (a + at) bs (p - at) 0 (simp length-put (omega arith)) (omega arith)
+        ∙ get_or-put-in _ (a + at) bs (p - at) 0 (simp length-put (omega arith)) (omega arith)
         ∙ sym (written_new (take n (drop a s)) at bs (p - at) (omega arith))
         ∙ ap (λ (x : ℕ). get_or (written (take n (drop a s)) at bs) x 0) f
 

@@ -259,7 +259,7 @@ module _ (d s : List ℕ) (o : Orderly d s) (k : ℕ) (found : find_transaction 
 
   pub drop-append-orderly : Orderly d u
   drop-append-orderly =
-      let Stays-of = named-stays d s o k u c in
+      let stays-of = named-stays d s o k u c in
       let named = stays-name d s o k u c in
       let numbered = stays-number d s o k u c in
       let untouched-all : (p : ℕ) → p < 8 → (staged_of u p).touched ≡ false = λ p l. ap (λ (r : Staged). r.touched) (unstaged d s o k u c p l) in
@@ -271,8 +271,8 @@ module _ (d s : List ℕ) (o : Orderly d s) (k : ℕ) (found : find_transaction 
         once = o.once;
         names = λ p q l m some same.
             let e = ap length same in
-            let a = named p l (Stays-of p l some) in
-            let b = named q m (Stays-of q m (omega arith)) in
+            let a = named p l (stays-of p l some) in
+            let b = named q m (stays-of q m (omega arith)) in
             o.names p q l m (rw a at some) (sym a ∙ same ∙ b);
         folders = o.folders;
         handles = λ p q l m some same.

@@ -4,7 +4,7 @@ use Rattle.std.proofs.Math.Option.{some}
 use native.Mathlib.Omega.{arith}
 use Rattle.octets.specs.Cases.{order}
 use Rattle.ring_buffer.specs.Ring.{nths}
-use Rattle.ring_buffer.specs.RingLaws.{length-nths, get_d-nths}
+use Rattle.ring_buffer.specs.RingLaws.{length-nths, get_or-nths}
 use Rattle.ring_buffer.specs.Put.{unwritten_of}
 use Rattle.components.proofs.WriteLaws.{write-below, write-in, write-mark}
 use Rattle.held.specs.Held.{Held, flush}
@@ -29,7 +29,7 @@ module _ (fs : ℕ) (z : 0 < fs) where
       let j : h.ring.first + h.ring.len ≡ W = s.joined (omega (arith, s.few)) in
       let m : h.ring.len - h.unwritten + i ≡ o - h.ring.first = omega (arith, s.few) in
       let w = write-in fs z bytes h.files (W - h.unwritten) i (rw length-nths (omega arith)) in
-      let v = get_d-nths h.ring h.cache (h.ring.len - h.unwritten) h.unwritten i (omega arith) in
+      let v = get_or-nths h.ring h.cache (h.ring.len - h.unwritten) h.unwritten i (omega arith) in
       let q = g o a b (omega (arith, s.few)) in
       cc)
 

@@ -5,7 +5,7 @@ use Rattle.std.proofs.Math.Path.{fun_ext}
 use Rattle.std.proofs.Math.Option.{Option, none, some, none-ne-some}
 use Rattle.std.proofs.Math.ListN.{get_elem?}
 use Rattle.octets.specs.Cases.{picked, and_r}
-use Rattle.octets.specs.Bytes.{length-put, get_d-put-in, length_part}
+use Rattle.octets.specs.Bytes.{length-put, get_or-put-in, length_part}
 use Rattle.ring_buffer.specs.Ring.{nth, fresh}
 use Rattle.ring_buffer.specs.RingLaws.{sound-fresh, sound-reset}
 use Rattle.components.specs.Pieces.{file_of, place_in}
@@ -85,7 +85,7 @@ fill-ringed capacity st a memory x f u v w one room o p q r =
     let k = o - a in
     let place : (0 + k) % capacity ≡ 0 + k = mod-eq_of_lt {n = 0 + k} {m = capacity} (omega arith) in
     let e : a + k ≡ o = omega arith in
-    rw place (get_d-put-in memory 0 last k 0 (omega arith) (omega arith))
+    rw place (get_or-put-in memory 0 last k 0 (omega arith) (omega arith))
     ∙ get_or-take (length x - a) (drop a x) k 0 (omega arith)
     ∙ get_or-drop a x k 0
     ∙ rw e

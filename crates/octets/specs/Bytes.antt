@@ -28,23 +28,23 @@ length-put s at [] = refl
 length-put s at (b ∷ bs) = length-put (set s at b) (at + 1) bs ∙ length-set s at b
 
 -- a byte outside: the side condition is linear
-pub get_d-put-other : (s : List ℕ) (at : ℕ) (bs : List ℕ) (i d : ℕ) → (at ≤ i → at + length bs ≤ i) → get_or (put s at bs) i d ≡ get_or s i d
+pub get_or-put-other : (s : List ℕ) (at : ℕ) (bs : List ℕ) (i d : ℕ) → (at ≤ i → at + length bs ≤ i) → get_or (put s at bs) i d ≡ get_or s i d
 unfolding put
-get_d-put-other s at [] i d h = refl
-get_d-put-other s at (b ∷ bs) i d h =
+get_or-put-other s at [] i d h = refl
+get_or-put-other s at (b ∷ bs) i d h =
     let e : i ≢ at = λ q. omega (arith, h (omega arith)) in
-    get_d-put-other (set s at b) (at + 1) bs i d (λ l. omega (arith, h (omega arith))) ∙ get_or-set_other s at i b d e
+    get_or-put-other (set s at b) (at + 1) bs i d (λ l. omega (arith, h (omega arith))) ∙ get_or-set_other s at i b d e
 
 -- a byte inside
-pub get_d-put-in : (s : List ℕ) (at : ℕ) (bs : List ℕ) (j d : ℕ) → at + length bs ≤ length s → j < length bs → get_or (put s at bs) (at + j) d ≡ get_or bs j d
+pub get_or-put-in : (s : List ℕ) (at : ℕ) (bs : List ℕ) (j d : ℕ) → at + length bs ≤ length s → j < length bs → get_or (put s at bs) (at + j) d ≡ get_or bs j d
 unfolding put
-get_d-put-in s at [] j d h l = absurd (omega arith)
-get_d-put-in s at (b ∷ bs) zero d h l =
+get_or-put-in s at [] j d h l = absurd (omega arith)
+get_or-put-in s at (b ∷ bs) zero d h l =
     rw add-zero
-    (get_d-put-other (set s at b) (at + 1) bs at d (λ q. omega arith) ∙ get_or-set_same s at b d (omega arith))
-get_d-put-in s at (b ∷ bs) (suc j) d h l =
+    (get_or-put-other (set s at b) (at + 1) bs at d (λ q. omega arith) ∙ get_or-set_same s at b d (omega arith))
+get_or-put-in s at (b ∷ bs) (suc j) d h l =
     let e : at + suc j ≡ at + 1 + j = omega arith in
-    rw e (get_d-put-in (set s at b) (at + 1) bs j d (simp length-set (omega arith)) (omega arith))
+    rw e (get_or-put-in (set s at b) (at + 1) bs j d (simp length-set (omega arith)) (omega arith))
 
 -- two runs, one behind the other
 pub put-append : (s : List ℕ) (at : ℕ) (xs ys : List ℕ) → put s at (xs ++ ys) ≡ put (put s at xs) (at + length xs) ys

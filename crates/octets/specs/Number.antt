@@ -4,7 +4,7 @@ use Rattle.std.proofs.Common.{sym, ap, ◌∙◌, add_assoc, mod-eq_of_lt, pow-s
 use Rattle.std.proofs.Math.Nat.{div-div-eq-div-mul, pow-zero, one-le-pow, mod-one}
 use Rattle.std.proofs.Math.Arith.{mod-mul}
 use Rattle.std.proofs.lemmas.List.{length-replicate}
-use Rattle.octets.specs.Bytes.{put, length_part, length-put, get_d-put-other, get_d-put-in, put-swap, put-over}
+use Rattle.octets.specs.Bytes.{put, length_part, length-put, get_or-put-other, get_or-put-in, put-swap, put-over}
 
 -- v in k bytes
 unfoldable pub le : ℕ → ℕ → List ℕ
@@ -106,14 +106,14 @@ pub num_at-put-other : (j : ℕ) (s : List ℕ) (at : ℕ) (bs : List ℕ) (b : 
 unfolding num_at
 num_at-put-other zero s at bs b h = refl
 num_at-put-other (suc j) s at bs b h =
-    rw (get_d-put-other s at bs b 0 (λ l. h (omega arith)), num_at-put-other j s at bs (b + 1) (λ l. omega (arith, h (omega arith))))
+    rw (get_or-put-other s at bs b 0 (λ l. h (omega arith)), num_at-put-other j s at bs (b + 1) (λ l. omega (arith, h (omega arith))))
 
 pub num_at-put_num-mod : (k : ℕ) (s : List ℕ) (at v : ℕ) → at + k ≤ length s → num_at k (put_num k s at v) at ≡ v % 256 ^ k
 unfolding num_at put_num put le
 num_at-put_num-mod zero s at v h = rw pow-zero (sym (mod-one v))
 num_at-put_num-mod (suc k) s at v h =
     let first : get_or (put (set s at (v % 256)) (at + 1) (le k (v / 256))) at 0 ≡ v % 256
-    = get_d-put-other (set s at (v % 256)) (at + 1) (le k (v / 256)) at 0 (λ l. omega arith) ∙ get_or-set_same s at (v % 256) 0 (omega arith) in
+    = get_or-put-other (set s at (v % 256)) (at + 1) (le k (v / 256)) at 0 (λ l. omega arith) ∙ get_or-set_same s at (v % 256) 0 (omega arith) in
     let rest : num_at k (put (set s at (v % 256)) (at + 1) (le k (v / 256))) (at + 1) ≡ v / 256 % 256 ^ k
     = num_at-put_num-mod k (set s at (v % 256)) (at + 1) (v / 256) (simp length-set (omega arith)) in
     rw (first, rest, pow-suc)
@@ -129,9 +129,9 @@ unfolding put_num
 num_at-put_num-other j k s at v b h = num_at-put-other j s at (le k v) b (λ l. rw length-le (h l))
 
 -- and so is a byte
-pub get_d-put_num-other : (k : ℕ) (s : List ℕ) (at v i d : ℕ) → (at ≤ i → at + k ≤ i) → get_or (put_num k s at v) i d ≡ get_or s i d
+pub get_or-put_num-other : (k : ℕ) (s : List ℕ) (at v i d : ℕ) → (at ≤ i → at + k ≤ i) → get_or (put_num k s at v) i d ≡ get_or s i d
 unfolding put_num
-get_d-put_num-other k s at v i d h = get_d-put-other s at (le k v) i d (λ l. rw length-le (h l))
+get_or-put_num-other k s at v i d h = get_or-put-other s at (le k v) i d (λ l. rw length-le (h l))
 
 -- a number put twice, bytes behind it between
 pub put_num-over : (k : ℕ) (s : List ℕ) (at v w b : ℕ) (bs : List ℕ) → at + k ≤ b → put_num k (put (put_num k s at v) b bs) at w ≡ put_num k (put s b bs) at w
@@ -220,18 +220,18 @@ put_num-8 s at v = simp (add_assoc, div-div-eq-div-mul)
 
 -- ---- a number among zeros
 
-pub get_d-zeros : (n i : ℕ) → ◌≡◌ {A = ℕ} (get_or (replicate n 0) i 0) 0
-get_d-zeros zero i = refl
-get_d-zeros (suc n) zero = refl
-get_d-zeros (suc n) (suc i) = get_d-zeros n i
+pub get_or-zeros : (n i : ℕ) → ◌≡◌ {A = ℕ} (get_or (replicate n 0) i 0) 0
+get_or-zeros zero i = refl
+get_or-zeros (suc n) zero = refl
+get_or-zeros (suc n) (suc i) = get_or-zeros n i
 
 pub num_at-zeros : (k n at : ℕ) → num_at k (replicate n 0) at ≡ 0
 unfolding num_at
 num_at-zeros zero n at = refl
-num_at-zeros (suc k) n at = rw (get_d-zeros n at, num_at-zeros k n (at + 1))
+num_at-zeros (suc k) n at = rw (get_or-zeros n at, num_at-zeros k n (at + 1))
 
 pub bytes-zeros : (n : ℕ) → Bytes (replicate n 0)
-bytes-zeros n i = rw (get_d-zeros n i) (omega arith)
+bytes-zeros n i = rw (get_or-zeros n i) (omega arith)
 
 -- in a part that was filled with zeros
 pub num_at-put-zeros : (k : ℕ) (s : List ℕ) (at n b : ℕ) → at + n ≤ length s → at ≤ b → b + k ≤ at + n → num_at k (put s at (replicate n 0)) b ≡ 0
@@ -242,6 +242,6 @@ num_at-put-zeros (suc k) s at n b room low high =
     let long = length-replicate {A = ℕ} n 0 in
     let here : get_or (put s at (replicate n 0)) b 0 ≡ 0
     = ap (λ (x : ℕ). get_or (put s at (replicate n 0)) x 0) e
-    ∙ get_d-put-in s at (replicate n 0) (b - at) 0 (rw long room) (rw long (omega arith))
-    ∙ get_d-zeros n (b - at) in
+    ∙ get_or-put-in s at (replicate n 0) (b - at) 0 (rw long room) (rw long (omega arith))
+    ∙ get_or-zeros n (b - at) in
     rw (here, num_at-put-zeros k s at n (b + 1) room (omega arith) (omega arith))

@@ -5,7 +5,7 @@ use Rattle.std.proofs.Math.Path.{refl}
 use Rattle.std.proofs.Common.{sym, ◌∙◌, arith, length-take, length-drop, get_or-take, get_or-drop, ext_get_or}
 use Prim.Native.Nat.{ℕ, zero, suc, ◌+◌, ◌≤◌, ◌<◌}
 use Rattle.std.proofs.lemmas.List.{length-replicate}
-use Rattle.octets.specs.Bytes.{put, length-put, get_d-put-other, put_is}
+use Rattle.octets.specs.Bytes.{put, length-put, get_or-put-other, put_is}
 use Rattle.octets.specs.Number.{num_at, put_num, length-le, Bytes, bytes_le, bytes-append, bytes_take, bytes_drop}
 
 -- t is s but for the places from low up to high
@@ -17,14 +17,14 @@ pub only_none : (low high : ℕ) (s : List ℕ) → OnlyIn low high s s
 only_none low high s = record { long = refl; same = λ i h. refl }
 
 pub only-put : (s : List ℕ) (at : ℕ) (bs : List ℕ) → OnlyIn at (at + length bs) s (put s at bs)
-only-put s at bs = record { long = length-put s at bs; same = λ i h. get_d-put-other s at bs i 0 h }
+only-put s at bs = record { long = length-put s at bs; same = λ i h. get_or-put-other s at bs i 0 h }
 
 pub only-put_num : (k : ℕ) (s : List ℕ) (at v : ℕ) → OnlyIn at (at + k) s (put_num k s at v)
 unfolding put_num
-only-put_num k s at v = record { long = length-put _ _ _; same = λ i h. get_d-put-other _ _ _ i 0 (λ l. rw length-le (h l)) }
+only-put_num k s at v = record { long = length-put _ _ _; same = λ i h. get_or-put-other _ _ _ i 0 (λ l. rw length-le (h l)) }
 
 pub only-zeros : (s : List ℕ) (at n : ℕ) → OnlyIn at (at + n) s (put s at (replicate n 0))
-only-zeros s at n = record { long = length-put _ _ _; same = λ i h. get_d-put-other _ _ _ i 0 (λ l. rw length-replicate (h l)) }
+only-zeros s at n = record { long = length-put _ _ _; same = λ i h. get_or-put-other _ _ _ i 0 (λ l. rw length-replicate (h l)) }
 
 -- one step behind another
 pub only_then : (low high : ℕ) (s t u : List ℕ) → OnlyIn low high s t → OnlyIn low high t u → OnlyIn low high s u

@@ -207,7 +207,7 @@ module _ (t : ℕ) (n : List ℕ) (long : 0 < length n) (q : Page) (h e : ℕ) (
       ∙ ap (result 0 count a) (front q.content buffer (i * e) (count * e) inside room)
 
 pub reads-again : ReadsAgain
-reads-again r f n long t i count buffer later q opened stays handle at here low high room more_Room =
+reads-again r f n long t i count buffer later q opened stays handle at here low high room more-room =
     let h = (known r n).handle in
     let e = (known r n).entry in
     let content = q.content in
@@ -222,5 +222,5 @@ reads-again r f n long t i count buffer later q opened stays handle at here low 
     = ap (λ (y : Result). y.buffer) (reads r n long t i count buffer q handle at here low high room) in
     let again : part ≡ take (count * e) (step (read_entries t h i count buffer) (ends r)).buffer
     = sym (take-append_seam part (drop (count * e) buffer)) ∙ ap (λ (m : ℕ). take m (part ++ drop (count * e) buffer)) whole ∙ ap (take (count * e)) (sym was) in
-    read-holding t n long q h e handle here (ends_then r f) (known_then r f) (stands-then r f) then i count later low inside more_Room
+    read-holding t n long q h e handle here (ends_then r f) (known_then r f) (stands-then r f) then i count later low inside more-room
     ∙ ap (λ (y : List ℕ). result 0 count (ends_then r f) (y ++ drop (count * e) later)) again

@@ -1,6 +1,6 @@
 -- Demand 3: the statements. A reviewer reads this file first. It rests on `Calls.antt` (the calls, their steps, which are the definitions that the contracts
 -- cite, and a run of them), on `Told.antt` (what the calls' arguments and answers say of the tape of a name) and, for one tape, on `lives/specs/Told.antt`
--- (Told, told, page, before). The proofs stand in `Theorems.antt`, and behind it in `ended`, `opened`, `seen`, `joins`, `lives` and `held`. Assumes nothing.
+-- (Told, told, page, before). The proofs stand in `proofs/Theorems.antt`, and behind it in `ended`, `opened`, `seen`, `joins`, `lives` and `held`. Assumes nothing.
 use Rattle.std.specs.Prelude.{◌≡◌, Bool, true, false, not, ◌||◌, ◌≢◌, ◌⊎◌, ℕ, ◌+◌, ◌-◌, ◌*◌, ◌/◌, ◌%◌, ◌≤◌, ◌<◌, length, take, drop, eqb}
 use Rattle.std.proofs.Math.Option.{none, some}
 use mathlib.Core.List.{List, [], ◌∷◌, ◌++◌, Memᴰ}

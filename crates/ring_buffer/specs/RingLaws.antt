@@ -32,16 +32,16 @@ unfolding nths
 length-nths r bytes k zero = refl
 length-nths r bytes k (suc n) = ap suc (length-nths r bytes (k + 1) n)
 
-pub get_d-nths : (r : RingBuffer) (bytes : List ℕ) (k n i : ℕ) → i < n → slice_index (nths r bytes k n) i ≡ nth r bytes (k + i)
+pub get_or-nths : (r : RingBuffer) (bytes : List ℕ) (k n i : ℕ) → i < n → slice_index (nths r bytes k n) i ≡ nth r bytes (k + i)
 unfolding nths
-get_d-nths r bytes k zero i h = absurd (omega arith)
-get_d-nths r bytes k (suc n) zero h = rw add-zero
-get_d-nths r bytes k (suc n) (suc i) h =
+get_or-nths r bytes k zero i h = absurd (omega arith)
+get_or-nths r bytes k (suc n) zero h = rw add-zero
+get_or-nths r bytes k (suc n) (suc i) h =
     let e : k + suc i ≡ k + 1 + i = omega arith in
-    rw e (get_d-nths r bytes (k + 1) n i (omega arith))
+    rw e (get_or-nths r bytes (k + 1) n i (omega arith))
 
-pub get_d-held : (r : RingBuffer) (bytes : List ℕ) (i : ℕ) → i < r.len → slice_index (held r bytes) i ≡ nth r bytes i
-get_d-held r bytes i h = get_d-nths r bytes 0 r.len i h ∙ ap (λ (k : ℕ). nth r bytes k) (zero-add i)
+pub get_or-held : (r : RingBuffer) (bytes : List ℕ) (i : ℕ) → i < r.len → slice_index (held r bytes) i ≡ nth r bytes i
+get_or-held r bytes i h = get_or-nths r bytes 0 r.len i h ∙ ap (λ (k : ℕ). nth r bytes k) (zero-add i)
 
 pub nths-append : (r : RingBuffer) (bytes : List ℕ) (k a b : ℕ) → nths r bytes k (a + b) ≡ nths r bytes k a ++ nths r bytes (k + a) b
 unfolding nths
@@ -60,8 +60,8 @@ nths-take r bytes k n a =
     (λ i l.
     let low : i < min a n = simp (length-take, length-nths) at l in
     get_or-take a (nths r bytes k n) i 0 (omega arith)
-    ∙ get_d-nths r bytes k n i (omega arith)
-    ∙ sym (get_d-nths r bytes k (min a n) i low))
+    ∙ get_or-nths r bytes k n i (omega arith)
+    ∙ sym (get_or-nths r bytes k (min a n) i low))
 
 pub nths-drop : (r : RingBuffer) (bytes : List ℕ) (k n a : ℕ) → drop a (nths r bytes k n) ≡ nths r bytes (k + a) (n - a)
 nths-drop r bytes k n a =
@@ -70,8 +70,8 @@ nths-drop r bytes k n a =
     (λ i l.
     let low : i < n - a = simp (length-drop, length-nths) at l in
     get_or-drop a (nths r bytes k n) i 0
-    ∙ get_d-nths r bytes k n (a + i) (omega arith)
-    ∙ rw (← add_assoc) (sym (get_d-nths r bytes (k + a) (n - a) i low)))
+    ∙ get_or-nths r bytes k n (a + i) (omega arith)
+    ∙ rw (← add_assoc) (sym (get_or-nths r bytes (k + a) (n - a) i low)))
 
 -- only the start and the capacity say where a run stands
 pub nths-same : (r q : RingBuffer) (bytes : List ℕ) → r.start ≡ q.start → r.capacity ≡ q.capacity → (k n : ℕ) → nths r bytes k n ≡ nths q bytes k n
@@ -92,7 +92,7 @@ nths-from r bytes k n =
     (length-nths r bytes k n ∙ sym (length-nths q bytes 0 n))
     (λ i l.
     let low : i < n = simp length-nths at l in
-    get_d-nths r bytes k n i low ∙ nth-from r bytes k i ∙ sym (get_d-nths q bytes 0 n i low ∙ ap (λ (j : ℕ). nth q bytes j) (zero-add i)))
+    get_or-nths r bytes k n i low ∙ nth-from r bytes k i ∙ sym (get_or-nths q bytes 0 n i low ∙ ap (λ (j : ℕ). nth q bytes j) (zero-add i)))
 
 -- a byte before the ring's end, counted from the place of the k-th
 nth_inside : (r : RingBuffer) (bytes : List ℕ) (k i : ℕ) → (r.start + k) % r.capacity + i < r.capacity
@@ -112,7 +112,7 @@ nths-piece r bytes k n h b =
     (length-nths r bytes k n ∙ sym long)
     (λ i l.
     let low : i < n = simp length-nths at l in
-    get_d-nths r bytes k n i low
+    get_or-nths r bytes k n i low
     ∙ nth_inside r bytes k i (omega arith)
     ∙ sym (get_or-take n (drop p bytes) i 0 low ∙ get_or-drop p bytes i 0))
 
@@ -268,11 +268,11 @@ module _ (r : RingBuffer) (bytes d : List ℕ) (missed : ℕ) (sound : Sound r (
       (length-nths q after 0 q.len ∙ all ∙ sym (length-append kept d ∙ ap (λ (n : ℕ). n + length d) long))
       (λ i l.
       let low : i < q.len = simp length-nths at l in
-      get_d-held q after i low
+      get_or-held q after i low
       ∙ order i (r.len - o)
       (λ old.
       push-old i (omega arith)
-      ∙ sym (get_or-append kept d 0 i (omega arith) ∙ get_or-drop o (held r bytes) i 0 ∙ get_d-held r bytes (o + i) (omega arith)))
+      ∙ sym (get_or-append kept d 0 i (omega arith) ∙ get_or-drop o (held r bytes) i 0 ∙ get_or-held r bytes (o + i) (omega arith)))
       (λ new.
       let j = i - length kept in
       let e : i ≡ length kept + j = omega arith in
@@ -290,7 +290,7 @@ module _ (r : RingBuffer) (bytes d : List ℕ) (missed : ℕ) (sound : Sound r (
       (length-nths q after (q.len - length d) (length d))
       (λ i l.
       let low : i < length d = simp length-nths at l in
-      get_d-nths q after (q.len - length d) (length d) i low ∙ push-new i (q.len - length d + i) low (omega arith))
+      get_or-nths q after (q.len - length d) (length d) i low ∙ push-new i (q.len - length d + i) low (omega arith))
 
   -- a pop of the pushed: the held bytes are those that were not pushed out
   pub held-push-pop : held (popped (pushed r (length d) missed) (length d)) (around r.capacity bytes (r.start + r.len) d) ≡ drop (over r (length d)) (held r bytes)

@@ -1,4 +1,4 @@
-use Rattle.std.proofs.Common.{◌-◌, ◌<◌, arith}
+use Rattle.std.proofs.Common.{◌<◌, arith}
 use Rattle.octets.specs.Number.{Bytes}
 use Rattle.appending.specs.RoomWays.{ends-fit, all-turn, all_end, files-few, room_by}
 use Rattle.appending.proofs.room.no_room.Goals as goal

@@ -46,11 +46,11 @@ returns-then-is_usable c =
     let ok : usable c.args.disk.now c.args.session.now ≡ true = sym c.is_usable.ensures ∙ c.if-is_usable.true in
     let free : is_open_at c.args.session.now 16 ≡ false = sym c.is_open.ensures ∙ c.if-is_open.false in
     elim c.if-head.branch [
-      then-head+else-readers-gt0 w ↦
-        let many : w.waiting_for-readers.result ≡ waits c.args.session.now = w.waiting_for-readers.ensures ∙ ap (λ (h : Head). waiting_for c.args.session.now h.epoch) c.get_head-head.ensures in
-        let none = w.if-readers-gt0.false in
-        append-alone c.args.disk.now c.args.session.now ok free (sym (ap (λ (h : Head). h.cut) c.get_head-head.ensures) ∙ w.if-head.true) (omega arith)
-    | else-head w ↦ append-uncut c.args.disk.now c.args.session.now ok free (sym (ap (λ (h : Head). h.cut) c.get_head-head.ensures) ∙ w.if-head.false)
+      | then-head+else-readers-gt0 w ↦
+          let many : w.waiting_for-readers.result ≡ waits c.args.session.now = w.waiting_for-readers.ensures ∙ ap (λ (h : Head). waiting_for c.args.session.now h.epoch) c.get_head-head.ensures in
+          let none = w.if-readers-gt0.false in
+          append-alone c.args.disk.now c.args.session.now ok free (sym (ap (λ (h : Head). h.cut) c.get_head-head.ensures) ∙ w.if-head.true) (omega arith)
+      | else-head w ↦ append-uncut c.args.disk.now c.args.session.now ok free (sym (ap (λ (h : Head). h.cut) c.get_head-head.ensures) ∙ w.if-head.false)
     ]
     ∙ c.begin_at.ensures
 

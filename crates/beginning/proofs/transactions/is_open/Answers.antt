@@ -1,5 +1,5 @@
 -- `is_open` is `is_open_at`: the arm of the rest is taken at the three kinds that are open. Assumes nothing.
-use Rattle.std.proofs.Common.{ℕ, ◌≡◌, refl, sym, ap, ◌∙◌, ◌⊎◌, ⊎_elim, true, arith}
+use Rattle.std.proofs.Common.{◌≡◌, refl, sym, ap, ◌∙◌, true}
 use Rattle.session.specs.MeaningLaws.{is_open}
 use Rattle.session.specs.declared.transactions.Kind.{Kind}
 use Rattle.session.specs.declared.transactions.Kind.TheVariants.{Closed, Reader, Append, Truncate}

@@ -1,4 +1,4 @@
-use Rattle.std.proofs.Common.{◌-◌, sym, ◌∙◌, zero-add, arith}
+use Rattle.std.proofs.Common.{sym, ◌∙◌, zero-add, arith}
 use Rattle.octets.specs.First.{count-hit, count-miss, count_none}
 use Rattle.beginning.specs.Transactions.{is_older, waiting_for}
 use Rattle.beginning.proofs.transactions.waiting_for.Goals as goal

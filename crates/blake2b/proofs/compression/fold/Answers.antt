@@ -1,4 +1,4 @@
-use Rattle.std.proofs.Common.{◌≡◌, ◌+◌, ◌-◌, get_or, sym, refl, ◌∙◌, arith, length-set, rules}
+use Rattle.std.proofs.Common.{◌≡◌, ◌+◌, get_or, sym, refl, ◌∙◌, arith, length-set, rules}
 use Rattle.blake2b.specs.Words.{xor}
 use Rattle.blake2b.proofs.Turns.{fold_step, fold_end}
 use Rattle.blake2b.proofs.compression.fold.Goals as goal

@@ -1,5 +1,5 @@
 -- `compression::fold` leaves `fold_from`. The loop's invariant: the words before i as they are, with those from i on folded, are the whole. Assumes nothing.
-use Rattle.std.proofs.Common.{◌≡◌, ◌+◌, ◌-◌, ◌≤◌, ◌++◌, length, take, drop}
+use Rattle.std.proofs.Common.{◌≡◌, ◌-◌, ◌≤◌, ◌++◌, length, take, drop}
 use Rattle.blake2b.specs.Blake2b.{fold_from}
 use Rattle.blake2b.proofs.compression.fold.Given as goal
 

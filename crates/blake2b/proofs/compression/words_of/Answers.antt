@@ -1,4 +1,4 @@
-use Rattle.std.proofs.Common.{◌≡◌, ℕ, ◌+◌, ◌-◌, ◌*◌, take, set, sym, refl, ap, ◌∙◌, arith, length-set, take_all, rules}
+use Rattle.std.proofs.Common.{◌≡◌, ℕ, ◌+◌, ◌*◌, take, set, sym, refl, ap, ◌∙◌, arith, length-set, take_all, rules}
 use Rattle.octets.specs.Number.{num_at}
 use Rattle.blake2b.specs.Blake2b.{words_from}
 use Rattle.blake2b.proofs.Turns.{words_step}

@@ -1,4 +1,4 @@
-use Rattle.std.proofs.Common.{◌≡◌, ◌-◌, ◌++◌, refl, arith, rules}
+use Rattle.std.proofs.Common.{◌≡◌, ◌++◌, refl, arith, rules}
 use Rattle.blake2b.specs.Constants.{IV}
 use Rattle.blake2b.specs.Blake2b.{flagged}
 use Rattle.blake2b.proofs.Turns.{filled_none, filled-step, filled-all, work_vector-word}

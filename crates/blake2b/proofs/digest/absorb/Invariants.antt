@@ -1,5 +1,5 @@
 -- `digest::absorb` is `finished`. The loop's invariant, `Taken`: the blocks before `at` are taken up, and some of the data is left. Assumes nothing.
-use Rattle.std.proofs.Common.{◌+◌, ◌-◌, ◌++◌, length}
+use Rattle.std.proofs.Common.{◌-◌, ◌++◌, length}
 use Rattle.blake2b.specs.Blake2b.{keyed, start as first}
 use Rattle.blake2b.proofs.Blocks.{Taken}
 use Rattle.blake2b.proofs.digest.absorb.Given as goal

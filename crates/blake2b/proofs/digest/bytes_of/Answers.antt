@@ -1,4 +1,4 @@
-use Rattle.std.proofs.Common.{◌≡◌, ◌-◌, ◌*◌, length, get_or, sym, refl, ap, ◌∙◌, arith, rules}
+use Rattle.std.proofs.Common.{◌≡◌, ◌*◌, length, get_or, sym, refl, ap, ◌∙◌, arith, rules}
 use Rattle.octets.specs.Number.{put_num, length-put_num}
 use Rattle.blake2b.proofs.Blocks.{bytes-start, bytes-turn, bytes-end}
 use Rattle.blake2b.proofs.digest.bytes_of.Goals as goal

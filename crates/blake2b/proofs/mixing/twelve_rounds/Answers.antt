@@ -1,4 +1,4 @@
-use Rattle.std.proofs.Common.{◌≡◌, ℕ, ◌-◌, ◌%◌, List, sym, refl, ap, ◌∙◌, arith, rules}
+use Rattle.std.proofs.Common.{◌≡◌, ℕ, ◌%◌, List, sym, refl, ap, ◌∙◌, arith, rules}
 use Rattle.blake2b.specs.Blake2b.{round, rounds}
 use Rattle.blake2b.proofs.Turns.{rounds-step}
 use Rattle.blake2b.proofs.mixing.twelve_rounds.Goals as goal

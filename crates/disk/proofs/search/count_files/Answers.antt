@@ -1,4 +1,4 @@
-use Rattle.std.proofs.Common.{◌≡◌, sym, ap, ◌∙◌, true, false, not, ℕ, ◌+◌, ◌-◌, zero-add, arith}
+use Rattle.std.proofs.Common.{◌≡◌, sym, ap, ◌∙◌, true, false, not, ℕ, ◌+◌, zero-add, arith}
 use native.Mathlib.Nat.{sub-zero}
 use Rattle.octets.specs.First as F
 use Rattle.layout.specs.Disk.{slots}

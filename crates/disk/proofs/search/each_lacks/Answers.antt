@@ -1,4 +1,4 @@
-use Rattle.std.proofs.Common.{refl, sym, ap, ◌∙◌, not, ◌-◌}
+use Rattle.std.proofs.Common.{refl, sym, ap, ◌∙◌, not}
 use Rattle.octets.specs.First.{all-hit, all-miss, all_none}
 use Rattle.disk.specs.Steps.{is_not}
 use Rattle.disk.proofs.search.each_lacks.Goals as goal

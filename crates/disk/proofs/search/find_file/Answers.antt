@@ -1,4 +1,4 @@
-use Rattle.std.proofs.Common.{◌≡◌, refl, sym, ap, ◌∙◌, ◌-◌, arith}
+use Rattle.std.proofs.Common.{◌≡◌, refl, sym, ap, ◌∙◌, arith}
 use Rattle.octets.specs.First.{first-hit, first-miss, first-none}
 use Rattle.layout.specs.Disk.{slots}
 use Rattle.layout.specs.Names.{find_name}

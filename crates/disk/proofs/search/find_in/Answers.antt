@@ -1,4 +1,4 @@
-use Rattle.std.proofs.Common.{sym, ◌∙◌, ◌-◌, arith}
+use Rattle.std.proofs.Common.{sym, ◌∙◌, arith}
 use Rattle.octets.specs.First.{first-hit, first-miss, first-none}
 use Rattle.disk.specs.Steps.{is_file}
 use Rattle.disk.proofs.search.find_in.Goals as goal

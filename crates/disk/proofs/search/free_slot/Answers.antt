@@ -1,4 +1,4 @@
-use Rattle.std.proofs.Common.{◌≡◌, sym, ◌∙◌, ◌-◌, arith}
+use Rattle.std.proofs.Common.{◌≡◌, sym, ◌∙◌, arith}
 use native.Mathlib.Nat.{sub-zero}
 use Rattle.octets.specs.First.{first-hit, first-miss, first-none}
 use Rattle.layout.specs.Disk.{slots}

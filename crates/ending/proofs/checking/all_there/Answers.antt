@@ -1,4 +1,4 @@
-use Rattle.std.proofs.Common.{refl, sym, ◌∙◌, ◌-◌, arith}
+use Rattle.std.proofs.Common.{refl, sym, ◌∙◌, arith}
 use Rattle.octets.specs.First.{all-hit, all-miss, all_none}
 use Rattle.ending.specs.Checking.{has_directory, all_there}
 use Rattle.ending.proofs.checking.all_there.Goals as goal

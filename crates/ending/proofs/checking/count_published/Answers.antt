@@ -1,4 +1,4 @@
-use Rattle.std.proofs.Common.{sym, ap, ◌∙◌, ◌-◌, arith}
+use Rattle.std.proofs.Common.{sym, ap, ◌∙◌, arith}
 use Rattle.octets.specs.First.{count-hit, count-miss, count_none}
 use Rattle.session.specs.declared.views.View.{View}
 use Rattle.ending.specs.Checking.{is_published}

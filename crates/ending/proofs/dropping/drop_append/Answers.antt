@@ -1,4 +1,4 @@
-use Rattle.std.proofs.Common.{◌≡◌, refl, sym, ap, ◌∙◌, List, ℕ, ◌-◌, arith}
+use Rattle.std.proofs.Common.{◌≡◌, refl, sym, ap, ◌∙◌, List, ℕ, arith}
 use Rattle.octets.specs.Sweep.{sweep, sweep-turn, sweep-end}
 use Rattle.ending.specs.Steps.{close_writer}
 use Rattle.ending.specs.Dropping.{take_back, drop_append}

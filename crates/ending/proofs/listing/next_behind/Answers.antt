@@ -1,4 +1,4 @@
-use Rattle.std.proofs.Common.{◌≡◌, refl, sym, ◌∙◌, ℕ, ◌-◌, arith}
+use Rattle.std.proofs.Common.{◌≡◌, refl, sym, ◌∙◌, ℕ, arith}
 use Rattle.octets.specs.declared.Found.TheVariants.{At, Nothing}
 use Rattle.ending.specs.Listing.{next_behind}
 use Rattle.ending.specs.ListingLaws.{next-hit, next-miss, next-end}

@@ -1,11 +1,10 @@
 -- `next_list` is `next_list` in its struct. The loop's invariant: the tapes found so far stand in the array, blanks behind them, and in front of
 -- what is still to come they are the whole list. Assumes nothing.
 -- how far the loop is: `done` are the tapes in the array, and `before` is the last of them, or blank
-use Rattle.std.proofs.Common.{length, ◌≡◌, Bool, List, ◌++◌, map, ℕ, ◌+◌, ◌-◌, ◌≤◌, replicate}
+use Rattle.std.proofs.Common.{length, ◌≡◌, Bool, List, ◌++◌, map, ℕ, ◌-◌, ◌≤◌, replicate}
 use Rattle.metadata.specs.declared.list.TapeMetadata.{TapeMetadata}
 use Rattle.metadata.specs.Tapes.{Tape}
 use Rattle.metadata.specs.Struct.{stored, blank, meaning}
-use Rattle.layout.specs.Names.{name}
 use Rattle.ending.specs.Listing.{list_behind, next_list}
 use Rattle.ending.proofs.listing.next_list.Given as goal
 

@@ -1,4 +1,4 @@
-use Rattle.std.proofs.Common.{◌≡◌, refl, sym, ◌∙◌, List, ℕ, ◌-◌, arith}
+use Rattle.std.proofs.Common.{◌≡◌, refl, sym, ◌∙◌, List, ℕ, arith}
 use Rattle.octets.specs.Sweep.{sweep, sweep-turn, sweep-end}
 use Rattle.session.specs.Meaning as Meaning
 use Rattle.session.specs.Rows.{put_transaction}

@@ -1,7 +1,6 @@
 -- `close_writer` leaves `close_writer`. The loop's invariant: what is left of the tapes to unstage, in the present session, is the whole. Assumes nothing.
 use Rattle.std.proofs.Common.{length, ◌≡◌, List, ℕ, ◌-◌, ◌≤◌}
 use Rattle.octets.specs.Sweep.{sweep}
-use Rattle.session.specs.Meaning as Meaning
 use Rattle.ending.specs.Steps.{unstage}
 use Rattle.ending.proofs.steps.close_writer.Given as goal
 

@@ -1,4 +1,4 @@
-use Rattle.std.proofs.Common.{◌≡◌, refl, sym, ◌∙◌, ◌-◌, arith}
+use Rattle.std.proofs.Common.{◌≡◌, refl, sym, ◌∙◌, arith}
 use Rattle.octets.specs.Sweep.{sweep-turn, sweep-end}
 use Rattle.ending.specs.Steps.{cut_tape}
 use Rattle.ending.specs.CutLaws.{begun-cut_tape, bytes-cut_tape}

@@ -1,4 +1,4 @@
-use Rattle.std.proofs.Common.{◌≡◌, refl, sym, ◌∙◌, ◌-◌, arith}
+use Rattle.std.proofs.Common.{◌≡◌, refl, sym, ◌∙◌, arith}
 use Rattle.octets.specs.Sweep.{sweep-turn, sweep-end}
 use Rattle.ending.specs.Steps.{publish_tape}
 use Rattle.ending.specs.StepLaws.{begun-publish_tape}

@@ -1,4 +1,4 @@
-use Rattle.std.proofs.Common.{◌≡◌, refl, sym, ◌∙◌, ℕ, ◌-◌, arith}
+use Rattle.std.proofs.Common.{◌≡◌, refl, sym, ◌∙◌, ℕ, arith}
 use Rattle.octets.specs.Sweep.{sweep-turn, sweep-end}
 use Rattle.rolling_tape.specs.Removal.{Areas, areas}
 use Rattle.ending.specs.Steps.{ripen_tape}

@@ -1,4 +1,4 @@
-use Rattle.std.proofs.Common.{refl, sym, ◌∙◌, ◌-◌}
+use Rattle.std.proofs.Common.{refl, sym, ◌∙◌}
 use Rattle.octets.specs.First.{all-hit, all-miss, all_none}
 use Rattle.layout.specs.Disk.{entry_fits}
 use Rattle.layout.proofs.disk_area.each_fits.Goals as goal

@@ -1,4 +1,4 @@
-use Rattle.std.proofs.Common.{refl, sym, ◌∙◌, true, false, ◌-◌, arith}
+use Rattle.std.proofs.Common.{refl, sym, ◌∙◌, true, false, arith}
 use Rattle.layout.specs.DiskLaws.{next-eight}
 use Rattle.layout.proofs.disk_area.eights_fit.Goals as goal
 

@@ -1,4 +1,4 @@
-use Rattle.std.proofs.Common.{sym, ap, ◌∙◌, true, false, ℕ, ◌-◌, arith}
+use Rattle.std.proofs.Common.{sym, ap, ◌∙◌, true, false, ℕ, arith}
 use native.Mathlib.Nat.{sub-zero}
 use Rattle.octets.specs.First.{all}
 use Rattle.layout.specs.Disk.{entry_fits}

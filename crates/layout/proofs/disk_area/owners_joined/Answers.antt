@@ -1,4 +1,4 @@
-use Rattle.std.proofs.Common.{◌≡◌, ap, ◌∙◌, ℕ, ◌+◌, ◌-◌, arith, rules}
+use Rattle.std.proofs.Common.{◌≡◌, ap, ◌∙◌, ℕ, ◌+◌, arith, rules}
 use Rattle.layout.specs.Disk.{owner}
 use Rattle.layout.specs.Joined.{joined, joined-more}
 use Rattle.layout.proofs.disk_area.owners_joined.Goals as goal

@@ -1,4 +1,4 @@
-use Rattle.std.proofs.Common.{refl, sym, ◌∙◌, Bool, List, ℕ, ◌-◌, arith}
+use Rattle.std.proofs.Common.{refl, sym, ◌∙◌, Bool, List, ℕ, arith}
 use Rattle.octets.specs.Compare.{same_bytes}
 use Rattle.octets.specs.First.{first-hit, first-miss, first-none}
 use Rattle.layout.specs.Names.{name, find_name}

@@ -1,4 +1,4 @@
-use Rattle.std.proofs.Common.{refl, sym, ◌∙◌, ◌-◌, ◌≤◌, ◌<◌, arith, le-leb}
+use Rattle.std.proofs.Common.{refl, sym, ◌∙◌, ◌≤◌, ◌<◌, arith, le-leb}
 use borrow.Author.Tests.{lt-leb}
 use Rattle.octets.specs.First.{all-hit, all-miss, all_none}
 use Rattle.layout.specs.Names.{name_fits, letters}

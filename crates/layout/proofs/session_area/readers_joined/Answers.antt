@@ -1,4 +1,4 @@
-use Rattle.std.proofs.Common.{◌≡◌, ap, ◌∙◌, ◌-◌, arith, rules}
+use Rattle.std.proofs.Common.{◌≡◌, ap, ◌∙◌, arith, rules}
 use Rattle.layout.specs.Session.{kind_word}
 use Rattle.layout.specs.Joined.{joined, joined-more}
 use Rattle.layout.proofs.session_area.readers_joined.Goals as goal

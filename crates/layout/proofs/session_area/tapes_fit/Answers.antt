@@ -1,4 +1,4 @@
-use Rattle.std.proofs.Common.{refl, sym, ◌∙◌, arith, ◌-◌, ◌≤◌, ◌<◌}
+use Rattle.std.proofs.Common.{refl, sym, ◌∙◌, arith, ◌≤◌, ◌<◌}
 use Rattle.octets.specs.First.{all-hit, all-miss, all_none}
 use Rattle.layout.specs.Session.{tape_fits}
 use Rattle.layout.proofs.session_area.tapes_fit.Goals as goal

@@ -1,4 +1,4 @@
-use Rattle.std.proofs.Common.{refl, sym, ◌∙◌, ◌-◌, arith}
+use Rattle.std.proofs.Common.{refl, sym, ◌∙◌, arith}
 use Rattle.lines.specs.HexLaws.{hex-turn, hex-first, hex-second, hex-over, hex-end}
 use Rattle.lines.proofs.hexadecimal.is_hex.Goals as goal
 

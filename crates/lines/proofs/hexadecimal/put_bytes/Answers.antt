@@ -1,4 +1,4 @@
-use Rattle.std.proofs.Common.{◌≡◌, refl, sym, ◌∙◌, ◌+◌, ◌-◌, ◌*◌, arith, drop, set, length-set}
+use Rattle.std.proofs.Common.{◌≡◌, refl, sym, ◌∙◌, ◌+◌, ◌*◌, arith, drop, set, length-set}
 use Rattle.octets.specs.Bytes.{put}
 use Rattle.lines.specs.Hex.{hex_bytes}
 use Rattle.lines.specs.HexLaws.{bytes-turn, bytes-end}

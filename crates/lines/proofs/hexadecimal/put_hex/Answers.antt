@@ -1,4 +1,4 @@
-use Rattle.std.proofs.Common.{refl, sym, ◌∙◌, ◌-◌, ◌<◌, arith, length, length-set}
+use Rattle.std.proofs.Common.{refl, sym, ◌∙◌, ◌<◌, arith, length, length-set}
 use Rattle.lines.specs.HexLaws.{digits-turn, digits-done, length-hex}
 use Rattle.lines.proofs.hexadecimal.put_hex.Goals as goal
 

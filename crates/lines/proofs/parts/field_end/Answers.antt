@@ -1,4 +1,4 @@
-use Rattle.std.proofs.Common.{refl, ◌-◌, arith}
+use Rattle.std.proofs.Common.{refl, arith}
 use Rattle.lines.specs.FieldLaws.{lead-stop, lead-step, lead-end}
 use Rattle.lines.proofs.parts.field_end.Goals as goal
 

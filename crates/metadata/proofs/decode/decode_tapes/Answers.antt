@@ -5,7 +5,7 @@ use Rattle.metadata.specs.declared.list.TapeMetadata.{TapeMetadata}
 use Rattle.metadata.specs.declared.list.TapeList.{TapeList}
 use Rattle.metadata.specs.declared.decode.TakenTape.{TakenTape}
 use Rattle.metadata.specs.declared.decode.TakenTape.TheVariants.{Found, NotFound}
-use Rattle.metadata.specs.Tapes.{tape_at, Part}
+use Rattle.metadata.specs.Tapes.{tape_at}
 use Rattle.metadata.specs.Decoding.{Listing, unreadable, next_tape, decode_from}
 use Rattle.metadata.specs.Decoding as listing
 use Rattle.metadata.specs.Struct.{stored, blank, list_of, decoded_of}

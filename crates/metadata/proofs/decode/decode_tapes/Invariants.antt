@@ -1,11 +1,10 @@
 -- `metadata::decode_tapes` answers `decode_from`. The loop's invariant: the tapes read so far stand in the array, blanks behind them, and in front of
 -- what is left to read they are the whole. Assumes nothing.
 -- the bytes of s from a place up to another
-use Rattle.std.proofs.Common.{◌≡◌, List, [], ◌++◌, map, ℕ, ◌+◌, ◌-◌, ◌≤◌, length, take, drop, replicate}
+use Rattle.std.proofs.Common.{◌≡◌, List, [], ◌++◌, map, ℕ, ◌-◌, ◌≤◌, length, take, drop, replicate}
 use Rattle.metadata.specs.declared.list.TapeMetadata.{TapeMetadata}
 use Rattle.metadata.specs.Tapes.{Tape, Part}
 use Rattle.metadata.specs.Decoding.{decode_from}
-use Rattle.metadata.specs.Decoding as listing
 use Rattle.metadata.specs.Struct.{stored, blank}
 use Rattle.metadata.specs.DecodingLaws.{prepend_all}
 use Rattle.metadata.proofs.decode.decode_tapes.Given as goal

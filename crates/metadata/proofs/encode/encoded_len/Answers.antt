@@ -1,8 +1,8 @@
-use Rattle.std.proofs.Common.{◌≡◌, sym, ap, ◌∙◌, List, ℕ, ◌+◌, ◌-◌, arith, rules, length, get_or}
+use Rattle.std.proofs.Common.{◌≡◌, sym, ap, ◌∙◌, List, ℕ, ◌+◌, arith, rules, length, get_or}
 use Rattle.metadata.specs.Tapes.{encode_tape}
 use Rattle.metadata.specs.Struct.{meaning, tapes_of}
 use Rattle.metadata.specs.StructLaws.{storable-count, storable-good, length-encode_list}
-use Rattle.metadata.proofs.Turns.{none, eight, firsts, firsts-none, length-all, length_more, length_most, tape-letters}
+use Rattle.metadata.proofs.Turns.{none, firsts, firsts-none, length-all, length_more, length_most, tape-letters}
 use Rattle.metadata.proofs.encode.encoded_len.Goals as goal
 
 pub loop-i-init : goal.loop-i-init

@@ -1,9 +1,9 @@
-use Rattle.std.proofs.Common.{length, ◌≡◌, refl, sym, ◌∙◌, true, false, ◌&&◌, ◌-◌, arith, rules, leb-true, leb, get_or}
+use Rattle.std.proofs.Common.{length, ◌≡◌, refl, sym, ◌∙◌, true, false, ◌&&◌, arith, rules, leb-true, leb, get_or}
 use borrow.Author.Tests.{lt-leb}
 use Rattle.octets.specs.Cases.{and_l}
 use Rattle.metadata.specs.Tapes.{fits}
 use Rattle.metadata.specs.Struct.{meaning, storable}
-use Rattle.metadata.proofs.Turns.{none, eight, storable-few, storable-end, storable-go, storable-stop}
+use Rattle.metadata.proofs.Turns.{none, storable-few, storable-end, storable-go, storable-stop}
 use Rattle.metadata.proofs.encode.is_storable.Goals as goal
 
 pub returns-then-list-gt-MOST_NAMES : goal.returns-then-list-gt-MOST_NAMES

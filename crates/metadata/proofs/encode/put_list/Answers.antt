@@ -1,10 +1,10 @@
-use Rattle.std.proofs.Common.{◌≡◌, sym, ap, ◌∙◌, List, ℕ, ◌+◌, ◌-◌, arith, rules, length, get_or}
+use Rattle.std.proofs.Common.{◌≡◌, sym, ap, ◌∙◌, List, ℕ, ◌+◌, arith, rules, length, get_or}
 use Rattle.octets.specs.Bytes.{put, length-put}
 use Rattle.borsh.specs.declared.Cursor.{Cursor}
 use Rattle.metadata.specs.Tapes.{encode_tape}
 use Rattle.metadata.specs.Struct.{meaning}
 use Rattle.metadata.specs.StructLaws.{storable-count}
-use Rattle.metadata.proofs.Turns.{none, eight, firsts, firsts-none, length-all, length_more, length_most, tape-letters, put_first, put-more, put_all}
+use Rattle.metadata.proofs.Turns.{none, firsts, firsts-none, length-all, length_more, length_most, tape-letters, put_first, put-more, put_all}
 use Rattle.metadata.proofs.encode.put_list.Goals as goal
 
 pub overflow_cast-list : goal.overflow_cast-list

@@ -1,4 +1,4 @@
-use Rattle.std.proofs.Common.{refl, sym, ◌∙◌, ◌-◌, arith}
+use Rattle.std.proofs.Common.{refl, sym, ◌∙◌, arith}
 use Rattle.metadata.specs.NameLaws.{bytes-step, bytes-stop, bytes-end, rule-empty, rule-long, rule-bytes}
 use Rattle.metadata.proofs.name.is_name.Goals as goal
 

@@ -6,7 +6,7 @@ use Rattle.layout.specs.Names.{find_name}
 use Rattle.disk.specs.Steps.{After, add_directory}
 use Rattle.rolling_tape.specs.Removal.{Areas, areas}
 use Rattle.opening.specs.Directory.{emptied}
-use Rattle.opening.specs.Ways.{add_at, add-nowhere}
+use Rattle.opening.specs.Ways.{add_at_lem, add-nowhere}
 use Rattle.opening.specs.DirectoryLaws.{sound-emptied}
 use Rattle.layout.specs.NamesLaws.{name-low}
 use Rattle.opening.proofs.directory.add.Goals as goal
@@ -37,6 +37,6 @@ returns c =
     let gone : emptied (areas d c.args.session.now) c.in-At.place ≡ areas c.empty.new.disk c.empty.new.session = c.empty.ensures in
     let a = areas d c.args.session.now in
     let wanted = c.args.name.now in
-    add_at a wanted (find_name d directories []) c.in-At.place found
+    add_at_lem a wanted (find_name d directories []) c.in-At.place found
     ∙ ap (λ (b : Areas). areas (add_directory b.disk wanted).area b.session) gone
     ∙ ap (λ (x : After). areas x.area c.empty.new.session) c.add_directory.ensures

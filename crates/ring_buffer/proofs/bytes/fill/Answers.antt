@@ -1,7 +1,7 @@
 use Rattle.std.proofs.Common.{◌≡◌, ℕ, ◌+◌, ◌-◌, ◌%◌, ◌<◌, ◌≤◌, min, List, ◌++◌, length, take, drop, sym, refl, ap, ◌∙◌, append-nil, add-zero, mod-lt, mod-eq_of_lt, zero-add, arith, drop_of_length-le}
 use native.Mathlib.Nat.{mod_self, mod-add-mod}
 use Rattle.octets.specs.Bytes.{put, length-put, put-append, put_front}
-use Rattle.ring_buffer.specs.Ring.{ring, nths}
+use Rattle.ring_buffer.specs.Ring.{nths}
 use Rattle.ring_buffer.specs.RingLaws.{length-nths, nths-zero, nths-append, nths-piece, nths-from}
 use Rattle.ring_buffer.proofs.bytes.fill.Invariants.{from, Inv}
 use Rattle.ring_buffer.proofs.bytes.fill.Goals as goal

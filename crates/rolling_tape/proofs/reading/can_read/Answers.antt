@@ -1,7 +1,7 @@
 use Rattle.std.proofs.Common.{◌≡◌, sym, ap, ◌∙◌, true, false, ◌+◌, ◌-◌, min, arith, rules}
 use native.Mathlib.Nat.{sub-zero}
 use Rattle.octets.specs.First.{all_none}
-use Rattle.components.specs.Pieces.{file_of, place_in, left_in}
+use Rattle.components.specs.Pieces.{file_of, place_in}
 use Rattle.rolling_tape.specs.Reading.{piece_lies, can_read}
 use Rattle.rolling_tape.specs.ReadingWays.{at, lies-less, piece-some, piece-within, piece-fits, all-stop, all-turn}
 use Rattle.rolling_tape.proofs.reading.can_read.Goals as goal

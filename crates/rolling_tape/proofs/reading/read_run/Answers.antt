@@ -1,7 +1,7 @@
 use Rattle.std.proofs.Common.{length, ◌≡◌, refl, sym, ap, ◌∙◌, List, ℕ, ◌+◌, ◌-◌, min, arith}
 use Rattle.octets.specs.Bytes.{put, length-put}
 use Rattle.rolling_tape.specs.Reading.{read_run}
-use Rattle.rolling_tape.specs.ReadingWays.{Turn, turn, length-lent, run-start, run-turn, run_lent, run_end}
+use Rattle.rolling_tape.specs.ReadingWays.{turn, length-lent, run-start, run-turn, run_lent, run_end}
 use Rattle.rolling_tape.proofs.reading.read_run.Goals as goal
 
 pub loop-done-init : goal.loop-done-init

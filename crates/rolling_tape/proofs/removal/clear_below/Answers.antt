@@ -1,4 +1,4 @@
-use Rattle.std.proofs.Common.{◌≡◌, sym, ap, ◌∙◌, not, ◌-◌, arith}
+use Rattle.std.proofs.Common.{◌≡◌, sym, ap, ◌∙◌, not, arith}
 use native.Mathlib.Nat.{sub-zero}
 use Rattle.octets.specs.First.{all-hit, all-miss, all_none}
 use Rattle.layout.specs.Disk.{slots}

@@ -1,5 +1,5 @@
 -- `clear` is `cleared`: the arm of the rest is taken at the two variants without a mark. Assumes nothing.
-use Rattle.std.proofs.Common.{◌≡◌, refl, ◌⊎◌, ⊎_elim, ℕ, arith}
+use Rattle.std.proofs.Common.{◌≡◌, refl, ℕ}
 use Rattle.session.specs.declared.tracking.Tracking.{Tracking}
 use Rattle.session.specs.declared.tracking.Tracking.TheVariants.{Untracked, Tracked, Marked}
 use Rattle.rolling_tape.specs.Tracking.{cleared}

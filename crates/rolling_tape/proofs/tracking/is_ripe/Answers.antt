@@ -1,5 +1,5 @@
 -- `is_ripe` is `is_ripe`: the arm of the rest is taken at the two variants without a mark. Assumes nothing.
-use Rattle.std.proofs.Common.{◌≡◌, refl, sym, ap, ◌⊎◌, ⊎_elim, false, ℕ, arith}
+use Rattle.std.proofs.Common.{◌≡◌, refl, sym, ap, false, ℕ}
 use Rattle.session.specs.declared.tracking.Tracking.{Tracking}
 use Rattle.session.specs.declared.tracking.Tracking.TheVariants.{Untracked, Tracked, Marked}
 use Rattle.rolling_tape.specs.Tracking.{is_ripe}

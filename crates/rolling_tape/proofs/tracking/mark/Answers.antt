@@ -1,5 +1,5 @@
 -- `mark` is `marked`: the arm of the rest is taken at the two variants that a mark leaves as they are. Assumes nothing.
-use Rattle.std.proofs.Common.{◌≡◌, refl, sym, ap, ◌⊎◌, ⊎_elim, ℕ, arith}
+use Rattle.std.proofs.Common.{◌≡◌, refl, sym, ap, ℕ}
 use Rattle.session.specs.declared.tracking.Tracking.{Tracking}
 use Rattle.session.specs.declared.tracking.Tracking.TheVariants.{Untracked, Tracked, Marked}
 use Rattle.rolling_tape.specs.Tracking.{marked}

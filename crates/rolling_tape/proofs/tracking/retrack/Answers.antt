@@ -1,4 +1,4 @@
-use Rattle.std.proofs.Common.{◌≡◌, refl, sym, ◌∙◌, ◌-◌, arith}
+use Rattle.std.proofs.Common.{◌≡◌, refl, sym, ◌∙◌, arith}
 use native.Mathlib.Nat.{sub-zero}
 use Rattle.octets.specs.Sweep.{sweep-turn, sweep-end}
 use Rattle.layout.specs.Disk.{slots}

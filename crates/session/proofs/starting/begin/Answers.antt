@@ -1,6 +1,6 @@
-use Rattle.std.proofs.Common.{◌≡◌, refl, sym, ap, ◌∙◌, List, ℕ, ◌+◌, ◌-◌, ◌≤◌, min, arith, rules, length, drop}
+use Rattle.std.proofs.Common.{◌≡◌, refl, sym, ap, ◌∙◌, List, ℕ, ◌+◌, ◌≤◌, min, arith, rules, length, drop}
 use Rattle.metadata.specs.Struct.{tapes_of}
-use Rattle.metadata.proofs.Turns.{none, eight}
+use Rattle.metadata.proofs.Turns.{none}
 use Rattle.session.specs.Begin.{listed_from, begin_session}
 use Rattle.session.specs.Ways.{listed-turn, listed-end}
 use Rattle.session.proofs.starting.begin.Goals as goal

@@ -1,4 +1,4 @@
-use Rattle.std.proofs.Common.{refl, sym, ◌∙◌, ◌-◌, arith}
+use Rattle.std.proofs.Common.{refl, sym, ◌∙◌, arith}
 use Rattle.octets.specs.First.{first-hit, first-miss, first-none}
 use Rattle.session.specs.Rows.{is_handle, find_handle}
 use Rattle.session.proofs.tape_rows.find_handle.Goals as goal

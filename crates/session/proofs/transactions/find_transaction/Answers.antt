@@ -1,4 +1,4 @@
-use Rattle.std.proofs.Common.{refl, sym, ◌∙◌, ◌-◌, arith}
+use Rattle.std.proofs.Common.{refl, sym, ◌∙◌, arith}
 use Rattle.octets.specs.First.{first-hit, first-miss, first-none}
 use Rattle.session.specs.Rows.{is_open_as, find_transaction}
 use Rattle.session.proofs.transactions.find_transaction.Goals as goal

@@ -1,4 +1,4 @@
-use Rattle.std.proofs.Common.{refl, sym, ◌∙◌, ◌-◌, arith}
+use Rattle.std.proofs.Common.{refl, sym, ◌∙◌, arith}
 use Rattle.octets.specs.First.{first-hit, first-miss, first-none}
 use Rattle.session.specs.Rows.{is_closed, free_reader}
 use Rattle.session.proofs.transactions.free_reader.Goals as goal
