@@ -1,6 +1,6 @@
 #!/usr/bin/env python3
 """Brings the names of this repository's own definitions and lemmas to snake case: `putNum` becomes `put_num`, `begun-putHead` becomes `begun-put_head`. Types stay in
-camel case. Run once, at the top, on what /opt/rattle/port/port.py wrote. Functions of src/, exported names, strings, inputs and outputs keep their names."""
+camel case. Run once, at the top, on what the kit's port.py wrote. Functions of src/, exported names, strings, inputs and outputs keep their names."""
 import glob
 import re
 import subprocess
