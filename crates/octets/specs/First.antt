@@ -5,13 +5,12 @@ use Rattle.std.proofs.Common.{ap, ◌∙◌, ⊎_elim, eq-or-lt_of_le, zero-add,
 use Prim.Native.Nat.{ℕ, zero, suc, ◌+◌, ◌-◌, ◌≤◌, ◌<◌}
 use native.Mathlib.Omega.{arith}
 use Rattle.octets.specs.Cases.{decide, equal}
-use Rattle.octets.specs.declared.Found.{Found}
-use Rattle.octets.specs.declared.Found.TheVariants.{At, Nothing}
+use Rattle.std.specs.Prelude.{Option, Some, None}
 
 -- of the k places from i on
-unfoldable pub first : (ℕ → Bool) → ℕ → ℕ → Found
-first p zero i = Nothing
-first p (suc k) i = cond (p i) (At i) (first p k (i + 1))
+unfoldable pub first : (ℕ → Bool) → ℕ → ℕ → Option ℕ
+first p zero i = None
+first p (suc k) i = cond (p i) (Some i) (first p k (i + 1))
 
 unfoldable pub all : (ℕ → Bool) → ℕ → ℕ → Bool
 all p zero i = true
@@ -23,7 +22,7 @@ count p (suc k) i = cond (p i) 1 0 + count p k (i + 1)
 
 -- ---- one turn, and the end, where n - i are left
 module _ (p : ℕ → Bool) (n i : ℕ) where
-  pub first-hit : i < n → p i ≡ true → first p (n - i) i ≡ At i
+  pub first-hit : i < n → p i ≡ true → first p (n - i) i ≡ Some i
   unfolding first
   first-hit l h =
       let e : n - i ≡ suc (n - (i + 1)) = omega arith in
@@ -35,7 +34,7 @@ module _ (p : ℕ → Bool) (n i : ℕ) where
       let e : n - i ≡ suc (n - (i + 1)) = omega arith in
       rw (e, h)
 
-  pub first-none : n ≤ i → first p (n - i) i ≡ Nothing
+  pub first-none : n ≤ i → first p (n - i) i ≡ None
   unfolding first
   first-none l =
       let e : n - i ≡ 0 = omega arith in
@@ -94,27 +93,27 @@ first-same p q (suc k) i h =
     rw (h i (omega arith) (omega arith), first-same p q k (i + 1) (λ j l m. h j (omega arith) (omega arith)))
 
 -- none is found where the test fails throughout
-pub first-never : (p : ℕ → Bool) (k i : ℕ) → ((j : ℕ) → i ≤ j → j < i + k → p j ≡ false) → first p k i ≡ Nothing
+pub first-never : (p : ℕ → Bool) (k i : ℕ) → ((j : ℕ) → i ≤ j → j < i + k → p j ≡ false) → first p k i ≡ None
 unfolding first
 first-never p zero i h = refl
 first-never p (suc k) i h =
     rw (h i (omega arith) (omega arith), first-never p k (i + 1) (λ j l m. h j (omega arith) (omega arith)))
 
 -- a place at which it holds, and not before
-pub first-at : (p : ℕ → Bool) (k i j : ℕ) → Hit p k i j → first p k i ≡ At j
+pub first-at : (p : ℕ → Bool) (k i j : ℕ) → Hit p k i j → first p k i ≡ Some j
 unfolding first
 first-at p zero i j h = absurd (omega arith)
 first-at p (suc k) i j h =
     ⊎_elim
     (λ (e : i ≡ j).
     let t : p i ≡ true = cc in
-    rw t (ap At e))
+    rw t (ap Some e))
     (λ (l : i < j).
     rw (h.before i (omega arith) l)
     (first-at p k (i + 1) j (record { low = omega arith; high = omega arith; holds = h.holds; before = λ m a b. h.before m (omega arith) b })))
     (eq-or-lt_of_le h.low)
 
-pub first-hits : (p : ℕ → Bool) (k i j : ℕ) → first p k i ≡ At j → Hit p k i j
+pub first-hits : (p : ℕ → Bool) (k i j : ℕ) → first p k i ≡ Some j → Hit p k i j
 unfolding first
 first-hits p zero i j e = let z : ◌≡◌ {A = ℕ} 0 1 = cc in absurd (omega arith)
 first-hits p (suc k) i j e =
@@ -131,7 +130,7 @@ first-hits p (suc k) i j e =
       before = λ m a b. ⊎_elim (λ (q : i ≡ m). cc) (λ (l : i < m). r.before m (omega arith) b) (eq-or-lt_of_le a);
     })
 
-pub first-misses : (p : ℕ → Bool) (k i : ℕ) → first p k i ≡ Nothing → (j : ℕ) → i ≤ j → j < i + k → p j ≡ false
+pub first-misses : (p : ℕ → Bool) (k i : ℕ) → first p k i ≡ None → (j : ℕ) → i ≤ j → j < i + k → p j ≡ false
 unfolding first
 first-misses p zero i e j l h = absurd (omega arith)
 first-misses p (suc k) i e j l h =

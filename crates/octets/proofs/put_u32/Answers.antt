@@ -1,16 +1,10 @@
--- `octets::put_u32` leaves `put_num 4`: its stores are `put_num-4`. Assumes nothing.
-use Rattle.std.proofs.Common.{sym, arith, length-set}
-use Rattle.octets.specs.Number.{put_num-4}
+use Rattle.std.proofs.Common.{◌≡◌, ◌∙◌, arith}
+use Rattle.octets.specs.Number.{le, put_num, length-le}
+use Rattle.octets.proofs.Std.{put-mid, le_4}
 use Rattle.octets.proofs.put_u32.Goals as goal
 
-pub bounds-s-at-2 : goal.bounds-s-at-2
-bounds-s-at-2 c = simp length-set (omega arith)
-
-pub bounds-s-at-3 : goal.bounds-s-at-3
-bounds-s-at-3 c = simp length-set (omega arith)
-
-pub bounds-s-at-4 : goal.bounds-s-at-4
-bounds-s-at-4 c = simp length-set (omega arith)
-
 pub returns : goal.returns
-returns c = sym (put_num-4 _ _ _)
+unfolding put_num
+returns c =
+    let bytes : c.copy_from_slice.new.self ≡ le 4 c.args.v = c.copy_from_slice.ensures.after ∙ c.to_le_bytes.ensures ∙ le_4 c.args.v in
+    rw bytes (put-mid c.args.s.now c.args.at _ (le 4 c.args.v) (rw length-le (omega arith)) (omega arith))
