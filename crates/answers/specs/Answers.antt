@@ -1,12 +1,15 @@
 -- Document 01, "Refusal numbers": "A refused call returns its number with value 0 (4 returns a count)". Assumes nothing.
-use Rattle.std.specs.Prelude.{ℕ}
-use Rattle.answers.specs.declared.OneEntry.{OneEntry}
-use Rattle.answers.specs.declared.OneEntry.TheVariants.{Entry, NoEntry}
-use Rattle.answers.specs.declared.OneEntry.TheVariants as One
+use Rattle.std.specs.Prelude.{ℕ, Option, Some, None, Result, Ok, Err}
 use Rattle.answers.specs.declared.Refusal.{Refusal}
 use Rattle.answers.specs.declared.Refusal.TheVariants.{Unusable, Unknown, WriterOpen, Wait, Full, BadName, ReservedName, BadSize, AlreadyOpen, NotWhole, Absent, OutOfBounds, StartPastLength, LongerCut, NoSlot, Missing, BadList, TooLarge}
-use Rattle.answers.specs.declared.Answer.{Answer}
-use Rattle.answers.specs.declared.Answer.TheVariants.{Done, Refused}
+
+-- of a call
+abbrev pub Answer : Type 0
+Answer = Result ℕ Refusal
+
+-- of a call for one entry: the index of the entry at the buffer's front, or that there is none
+abbrev pub OneEntry : Type 0
+OneEntry = Result (Option ℕ) Refusal
 
 abbrev pub refusal_number : Refusal → ℕ
 refusal_number Unusable = 1
@@ -49,21 +52,21 @@ refusal_value BadList = 0
 refusal_value TooLarge = 0
 
 abbrev pub code_of : Answer → ℕ
-code_of (Done v) = 0
-code_of (Refused why) = refusal_number why
+code_of (Ok v) = 0
+code_of (Err why) = refusal_number why
 
 abbrev pub value_of : Answer → ℕ
-value_of (Done v) = v
-value_of (Refused why) = refusal_value why
+value_of (Ok v) = v
+value_of (Err why) = refusal_value why
 
 -- ---- of one entry: where there is none the value is 2^64-1, which no entry has as its index
 
 abbrev pub entry_code_of : OneEntry → ℕ
-entry_code_of (Entry i) = 0
-entry_code_of NoEntry = 0
-entry_code_of (One.Refused why) = refusal_number why
+entry_code_of (Ok (Some i)) = 0
+entry_code_of (Ok None) = 0
+entry_code_of (Err why) = refusal_number why
 
 abbrev pub entry_value_of : OneEntry → ℕ
-entry_value_of (Entry i) = i
-entry_value_of NoEntry = 0xffff_ffff_ffff_ffff
-entry_value_of (One.Refused why) = refusal_value why
+entry_value_of (Ok (Some i)) = i
+entry_value_of (Ok None) = 0xffff_ffff_ffff_ffff
+entry_value_of (Err why) = refusal_value why

@@ -1,9 +1,7 @@
 -- What a call answers, and what all the memory lent to it then holds. Assumes nothing.
-use Rattle.std.specs.Prelude.{◌≡◌, ◌≢◌, List, ℕ}
-use Rattle.answers.specs.declared.Answer.{Answer}
-use Rattle.answers.specs.declared.Answer.TheVariants.{Refused}
-use Rattle.answers.specs.declared.OneEntry.{OneEntry}
-use Rattle.answers.specs.declared.OneEntry.TheVariants as One
+use Rattle.std.specs.Prelude.{◌≡◌, ◌≢◌, List, ℕ, Err}
+use Rattle.answers.specs.Answers.{Answer}
+use Rattle.answers.specs.Answers.{OneEntry}
 use Rattle.answers.specs.declared.Refusal.{Refusal}
 use Rattle.answers.specs.Answers.{code_of}
 
@@ -18,7 +16,7 @@ outcome a d s = record { answer = a; disk = d; session = s }
 
 -- "A refused call .. changes no lent byte"
 abbrev pub refused_at : Refusal → List ℕ → List ℕ → Outcome
-refused_at why d s = outcome (Refused why) d s
+refused_at why d s = outcome (Err why) d s
 
 -- and of the outcome of any call: if it is a refusal, both areas are as they were
 abbrev pub Unchanged : List ℕ → List ℕ → Outcome → Type 0
@@ -33,7 +31,7 @@ abbrev pub reading : Answer → List ℕ → Reading
 reading a b = record { answer = a; buffer = b }
 
 abbrev pub refused_read : Refusal → List ℕ → Reading
-refused_read why b = reading (Refused why) b
+refused_read why b = reading (Err why) b
 
 -- of a read of one entry
 pub record Entering : Type 0 where
@@ -53,4 +51,4 @@ abbrev pub popping : OneEntry → List ℕ → List ℕ → Popping
 popping a s b = record { answer = a; session = s; buffer = b }
 
 abbrev pub refused_pop : Refusal → List ℕ → List ℕ → Popping
-refused_pop why s b = popping (One.Refused why) s b
+refused_pop why s b = popping (Err why) s b

@@ -1,4 +1,5 @@
-// What a call answers: a value, or a refusal with its reason. Document 01's table of refusal numbers
+// What a call answers is a `Result<u64, Refusal>`: a value, or the reason of its refusal; of one entry a
+// `Result<Option<u64>, Refusal>`: its index, or that there is none. Document 01's table of refusal numbers
 // stands in `specs/Answers.antt`; the functions give its numbers to whoever talks in numbers. Proved,
 // and nothing is assumed.
 #![tactic(auto)]
@@ -7,7 +8,7 @@ ghost use Rattle.std.specs.Prelude.{◌≡◌};
 ghost use Rattle.answers.specs.Answers.{refusal_number, refusal_value, code_of, value_of, entry_code_of, entry_value_of};
 
 // The reasons, in the order of their numbers.
-#[derive(Clone, Copy)]
+#[derive(Clone, Copy, Debug, PartialEq, Eq)]
 pub enum Refusal {
     // 1: an area is too small or breaks its layout rule, or no session was begun.
     Unusable,
@@ -47,12 +48,6 @@ pub enum Refusal {
     TooLarge,
 }
 
-#[derive(Clone, Copy)]
-pub enum Answer {
-    Done(u64),
-    Refused(Refusal),
-}
-
 fn refusal_number(why: Refusal) -> u64
     ensures { result ≡ refusal_number why }
 {
@@ -78,79 +73,53 @@ fn refusal_number(why: Refusal) -> u64
     }
 }
 
+// The number of readers that an append waits for; 0 of every other refusal.
 fn refusal_value(why: Refusal) -> u64
     ensures { result ≡ refusal_value why }
 {
     match why {
-        Refusal::Unusable => 0,
-        Refusal::Unknown => 0,
-        Refusal::WriterOpen => 0,
         Refusal::Wait(readers) => readers,
-        Refusal::Full => 0,
-        Refusal::BadName => 0,
-        Refusal::ReservedName => 0,
-        Refusal::BadSize => 0,
-        Refusal::AlreadyOpen => 0,
-        Refusal::NotWhole => 0,
-        Refusal::Absent => 0,
-        Refusal::OutOfBounds => 0,
-        Refusal::StartPastLength => 0,
-        Refusal::LongerCut => 0,
-        Refusal::NoSlot => 0,
-        Refusal::Missing => 0,
-        Refusal::BadList => 0,
-        Refusal::TooLarge => 0,
+        _ => 0,
     }
 }
 
 // The refusal's number; 0 where the call was served.
-pub fn code(answer: Answer) -> u64
+pub fn code(answer: Result<u64, Refusal>) -> u64
     ensures { result ≡ code_of answer }
 {
     match answer {
-        Answer::Done(_) => 0,
-        Answer::Refused(why) => refusal_number(why),
+        Ok(_) => 0,
+        Err(why) => refusal_number(why),
     }
 }
 
 // What a served call gives; of a refused one 0, but for an append that waits the number of readers.
-pub fn value(answer: Answer) -> u64
+pub fn value(answer: Result<u64, Refusal>) -> u64
     ensures { result ≡ value_of answer }
 {
     match answer {
-        Answer::Done(given) => given,
-        Answer::Refused(why) => refusal_value(why),
+        Ok(given) => given,
+        Err(why) => refusal_value(why),
     }
 }
 
-// What a call for one entry answers.
-#[derive(Clone, Copy)]
-pub enum OneEntry {
-    // The entry of this index stands at the buffer's front.
-    Entry(u64),
-    // There is none.
-    NoEntry,
-    Refused(Refusal),
-}
-
-// The refusal's number; 0 where there is an entry, and where there is none.
-pub fn entry_code(answer: OneEntry) -> u64
+// The same of a call for one entry: 0 where there is an entry, and where there is none.
+pub fn entry_code(answer: Result<Option<u64>, Refusal>) -> u64
     ensures { result ≡ entry_code_of answer }
 {
     match answer {
-        OneEntry::Entry(_) => 0,
-        OneEntry::NoEntry => 0,
-        OneEntry::Refused(why) => refusal_number(why),
+        Ok(_) => 0,
+        Err(why) => refusal_number(why),
     }
 }
 
 // The entry's index; where there is none 2^64-1, which no entry has.
-pub fn entry_value(answer: OneEntry) -> u64
+pub fn entry_value(answer: Result<Option<u64>, Refusal>) -> u64
     ensures { result ≡ entry_value_of answer }
 {
     match answer {
-        OneEntry::Entry(index) => index,
-        OneEntry::NoEntry => 0xffff_ffff_ffff_ffff,
-        OneEntry::Refused(why) => refusal_value(why),
+        Ok(Some(index)) => index,
+        Ok(None) => 0xffff_ffff_ffff_ffff,
+        Err(why) => refusal_value(why),
     }
 }

@@ -1,11 +1,9 @@
 -- The ways out of the call's functions, in the code's order: a law for each. Assumes nothing.
-use Rattle.std.specs.Prelude.{◌≡◌, ◌≢◌, true, false, List, ℕ, ◌+◌, ◌/◌, ◌%◌, ◌≤◌, ◌<◌, eqb}
+use Rattle.std.specs.Prelude.{◌≡◌, ◌≢◌, true, false, List, ℕ, ◌+◌, ◌/◌, ◌%◌, ◌≤◌, ◌<◌, eqb, Some, None, Ok}
 use borrow.Author.Tests.{eq-eqb, ne_eqb, lt-ltb, le-ltb}
 use Rattle.std.proofs.Math.ListN.{length}
 use Rattle.octets.specs.Cases.{decide}
-use Rattle.octets.specs.declared.Found.TheVariants.{At, Nothing}
 use Rattle.answers.specs.Outcome.{outcome, refused_at}
-use Rattle.answers.specs.declared.Answer.TheVariants.{Done}
 use Rattle.answers.specs.declared.Refusal.TheVariants.{Unusable, Unknown, Absent, NotWhole, TooLarge, NoSlot, Missing}
 use Rattle.layout.specs.Session.{entry_size_of}
 use Rattle.session.specs.Rows.{handle_of, staged_of, find_handle}
@@ -40,7 +38,7 @@ module _ (d s : List ℕ) (p place : ℕ) (bs : List ℕ) where
   put-room e = rw e
 
   pub put-goes : no_room d s p (length bs) ≡ false → (r : Staged) → r ≡ touched_as s p → (h : Handle) → h ≡ handle_of s p → (t u : List ℕ)
-      → put_in (areas d s) place p r bs ≡ areas t u → put_on d s p place bs ≡ outcome (Done (r.len / h.entry)) t u
+      → put_in (areas d s) place p r bs ≡ areas t u → put_on d s p place bs ≡ outcome (Ok (r.len / h.entry)) t u
   unfolding put_on
   put-goes e r row h handle t u goes = rw (e, handle-entry s p h handle, ← row, goes)
 
@@ -65,11 +63,11 @@ module _ (d s : List ℕ) (p : ℕ) (bs : List ℕ) (v : View) (seen : v ≡ see
       append-large l = rw (← seen, listed, whole-test, lt-ltb 0xffff_ffff_ffff_ffff (v.len + length bs) l)
 
       module _ (fits : v.len + length bs ≤ 0xffff_ffff_ffff_ffff) where
-        pub append-missing : directory_of d s p ≡ Nothing → append_on d s p bs ≡ refused_at Missing d s
+        pub append-missing : directory_of d s p ≡ None → append_on d s p bs ≡ refused_at Missing d s
         unfolding append_on
         append-missing e = rw (← seen, listed, whole-test, le-ltb 0xffff_ffff_ffff_ffff (v.len + length bs) fits, e)
 
-        pub append-goes : (place : ℕ) → directory_of d s p ≡ At place → append_on d s p bs ≡ put_on d s p place bs
+        pub append-goes : (place : ℕ) → directory_of d s p ≡ Some place → append_on d s p bs ≡ put_on d s p place bs
         unfolding append_on
         append-goes place e = rw (← seen, listed, whole-test, le-ltb 0xffff_ffff_ffff_ffff (v.len + length bs) fits, e)
 
@@ -86,10 +84,10 @@ module _ (d s : List ℕ) (t h : ℕ) (bs : List ℕ) where
     call-no-append e = rw (ok, e)
 
     module _ (writer : writes s t ≡ true) where
-      pub call-no-handle : find_handle s h ≡ Nothing → put_call d s t h bs ≡ refused_at Unknown d s
+      pub call-no-handle : find_handle s h ≡ None → put_call d s t h bs ≡ refused_at Unknown d s
       unfolding put_call
       call-no-handle e = rw (ok, writer, e)
 
-      pub call-goes : (p : ℕ) → find_handle s h ≡ At p → put_call d s t h bs ≡ append_on d s p bs
+      pub call-goes : (p : ℕ) → find_handle s h ≡ Some p → put_call d s t h bs ≡ append_on d s p bs
       unfolding put_call
       call-goes p e = rw (ok, writer, e)

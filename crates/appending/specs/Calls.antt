@@ -1,10 +1,7 @@
 -- "Append: 11, 10, 18, 15", behind 1 and 2; "16 for a missing directory, after 18". "Append returns the staged length before it", in entries. Assumes
 -- nothing.
-use Rattle.std.specs.Prelude.{cond, List, ℕ, ◌+◌, ◌/◌, ◌%◌, eqb, ltb, length}
-use Rattle.octets.specs.declared.Found.{Found}
-use Rattle.octets.specs.declared.Found.TheVariants.{At, Nothing}
+use Rattle.std.specs.Prelude.{cond, List, ℕ, ◌+◌, ◌/◌, ◌%◌, eqb, ltb, length, Option, Some, None, Ok}
 use Rattle.answers.specs.Outcome.{Outcome, outcome, refused_at}
-use Rattle.answers.specs.declared.Answer.TheVariants.{Done}
 use Rattle.answers.specs.declared.Refusal.TheVariants.{Unusable, Unknown, Absent, NotWhole, TooLarge, NoSlot, Missing}
 use Rattle.layout.specs.Session.{entry_size_of}
 use Rattle.session.specs.Rows.{find_handle}
@@ -15,7 +12,7 @@ use Rattle.staging.specs.Seeing.{directory_of, writes, seen_by, touched_as}
 use Rattle.appending.specs.Room.{no_room}
 
 abbrev pub done_in : ℕ → Areas → Outcome
-done_in value a = outcome (Done value) a.disk a.session
+done_in value a = outcome (Ok value) a.disk a.session
 
 -- the bytes put, in the directory of tape p
 unfoldable pub put_on : List ℕ → List ℕ → ℕ → ℕ → List ℕ → Outcome
@@ -23,9 +20,9 @@ put_on d s p place bs =
     cond (no_room d s p (length bs)) (refused_at NoSlot d s)
     (done_in ((touched_as s p).len / entry_size_of s p) (put_in (areas d s) place p (touched_as s p) bs))
 
-abbrev pub put_where : List ℕ → List ℕ → ℕ → List ℕ → Found → Outcome
-put_where d s p bs (At place) = put_on d s p place bs
-put_where d s p bs Nothing = refused_at Missing d s
+abbrev pub put_where : List ℕ → List ℕ → ℕ → List ℕ → Option ℕ → Outcome
+put_where d s p bs (Some place) = put_on d s p place bs
+put_where d s p bs None = refused_at Missing d s
 
 unfoldable pub append_on : List ℕ → List ℕ → ℕ → List ℕ → Outcome
 append_on d s p bs =
@@ -36,9 +33,9 @@ append_on d s p bs =
     (refused_at NotWhole d s))
     (refused_at Absent d s)
 
-abbrev pub append_in : List ℕ → List ℕ → List ℕ → Found → Outcome
-append_in d s bs (At p) = append_on d s p bs
-append_in d s bs Nothing = refused_at Unknown d s
+abbrev pub append_in : List ℕ → List ℕ → List ℕ → Option ℕ → Outcome
+append_in d s bs (Some p) = append_on d s p bs
+append_in d s bs None = refused_at Unknown d s
 
 unfoldable pub put_call : List ℕ → List ℕ → ℕ → ℕ → List ℕ → Outcome
 put_call d s t h bs =

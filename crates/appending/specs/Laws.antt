@@ -1,17 +1,15 @@
 -- Laws of the call: the contract leaves nothing open, a refused call changes nothing, and both areas keep their rules, their lengths and their bytes.
 -- Assumes nothing.
-use Rattle.std.specs.Prelude.{◌≡◌, refl, ◌≢◌, false, List, ℕ, ◌+◌, ◌/◌, ◌%◌, ◌≤◌, ◌<◌, ◌^◌, eqb, ltb}
+use Rattle.std.specs.Prelude.{◌≡◌, refl, ◌≢◌, false, List, ℕ, ◌+◌, ◌/◌, ◌%◌, ◌≤◌, ◌<◌, ◌^◌, eqb, ltb, Option, Some, None}
 use Rattle.std.proofs.Common.{sym, ◌∙◌, arith}
 use Rattle.std.proofs.Math.Bool.{true}
 use borrow.Author.Tests.{eqb-true, ltb-false}
 use Rattle.std.proofs.Math.ListN.{length}
 use Rattle.octets.specs.Cases.{picked}
 use Rattle.octets.specs.Number.{Bytes}
-use Rattle.octets.specs.declared.Found.{Found}
-use Rattle.octets.specs.declared.Found.TheVariants.{At, Nothing}
 use Rattle.answers.specs.Answers.{code_of}
 use Rattle.answers.specs.Outcome.{Outcome, outcome, refused_at, Unchanged}
-use Rattle.answers.specs.declared.Answer.{Answer}
+use Rattle.answers.specs.Answers.{Answer}
 use Rattle.answers.specs.declared.Refusal.{Refusal}
 use Rattle.answers.specs.declared.Refusal.TheVariants.{Unusable, Unknown, Absent, NotWhole, TooLarge, NoSlot, Missing}
 use Rattle.layout.specs.Disk as D
@@ -46,14 +44,14 @@ pub record Fitting (d s bs : List ℕ) (p place : ℕ) : Type 0 where
   pub listed : (seen_by s 16 p).listed ≡ true
   pub whole : length bs % entry_size_of s p ≡ 0
   pub fits : (seen_by s 16 p).len + length bs ≤ 0xffff_ffff_ffff_ffff
-  pub there : directory_of d s p ≡ At place
+  pub there : directory_of d s p ≡ Some place
   pub room : no_room d s p (length bs) ≡ false
 
 -- what a call that is served has found
 pub record Goes (d s : List ℕ) (t h : ℕ) (bs : List ℕ) (p place : ℕ) : Type 0 where
   pub sound : usable d s ≡ true
   pub writer : writes s t ≡ true
-  pub found : find_handle s h ≡ At p
+  pub found : find_handle s h ≡ Some p
   pub on : Fitting d s bs p place
 
 -- "Append returns the staged length before it", in entries
@@ -64,9 +62,9 @@ module _ (P : Outcome → Type 0) (d s bs : List ℕ) (no : (why : Refusal) → 
   -- on a tape
   module _ (p : ℕ) (goes : (place : ℕ) → Fitting d s bs p place → P (served d s bs p place)) where
     into : (seen_by s 16 p).listed ≡ true → eqb (length bs % entry_size_of s p) 0 ≡ true → ltb 0xffff_ffff_ffff_ffff ((seen_by s 16 p).len + length bs) ≡ false
-        → (q : Found) → directory_of d s p ≡ q → P (put_where d s p bs q)
+        → (q : Option ℕ) → directory_of d s p ≡ q → P (put_where d s p bs q)
     unfolding put_on
-    into l w f (At place) there =
+    into l w f (Some place) there =
         picked P (no_room d s p (length bs)) _ _ (λ full. no NoSlot)
         (λ room.
         goes place
@@ -77,7 +75,7 @@ module _ (P : Outcome → Type 0) (d s bs : List ℕ) (no : (why : Refusal) → 
           there = there;
           room = room;
         }))
-    into l w f Nothing there = no Missing
+    into l w f None there = no Missing
 
     on-cases : P (append_on d s p bs)
     unfolding append_on
@@ -98,9 +96,9 @@ module _ (P : Outcome → Type 0) (d s bs : List ℕ) (no : (why : Refusal) → 
       (λ ok. picked P (writes s t) _ _ (λ w. on ok w (find_handle s h) refl) (λ w. no Unknown))
       (λ ok. no Unusable)
     where
-      on : usable d s ≡ true → writes s t ≡ true → (q : Found) → find_handle s h ≡ q → P (append_in d s bs q)
-      on ok w (At p) e = on-cases p (λ place f. goes p place (record { sound = ok; writer = w; found = e; on = f }))
-      on ok w Nothing e = no Unknown
+      on : usable d s ≡ true → writes s t ≡ true → (q : Option ℕ) → find_handle s h ≡ q → P (append_in d s bs q)
+      on ok w (Some p) e = on-cases p (λ place f. goes p place (record { sound = ok; writer = w; found = e; on = f }))
+      on ok w None e = no Unknown
 
 -- a call that has found all that is served
 pub put-done : (d s : List ℕ) (t h : ℕ) (bs : List ℕ) (p place : ℕ) → Goes d s t h bs p place → put_call d s t h bs ≡ served d s bs p place

@@ -1,8 +1,6 @@
 -- Rule of 15: "files on the disk, plus the (tape, file number) pairs that staged bytes after this append would cover and the disk lacks, exceed the
 -- slots". Assumes nothing.
-use Rattle.std.specs.Prelude.{Bool, cond, not, ◌&&◌, ◌||◌, List, ℕ, zero, suc, ◌+◌, ◌-◌, min, max, eqb, ltb}
-use Rattle.octets.specs.declared.Found.{Found}
-use Rattle.octets.specs.declared.Found.TheVariants.{At, Nothing}
+use Rattle.std.specs.Prelude.{Bool, cond, not, ◌&&◌, ◌||◌, List, ℕ, zero, suc, ◌+◌, ◌-◌, min, max, eqb, ltb, Option, Some, None}
 use Rattle.components.specs.Pieces.{file_of}
 use Rattle.components.specs.Slots.{lacking_from, covered}
 use Rattle.layout.specs.Disk.{slots}
@@ -22,9 +20,9 @@ abbrev pub end_of : Staged → ℕ → ℕ
 end_of row more = max (row.len + more) row.unwritten
 
 -- how many files of the bytes from low up to end a directory lacks; one that is missing lacks all
-abbrev pub lacking_in : List ℕ → ℕ → ℕ → ℕ → Found → ℕ
-lacking_in d fs low end (At place) = lacking_from (on_disk d place) (file_of fs low) (covered fs low end)
-lacking_in d fs low end Nothing = covered fs low end
+abbrev pub lacking_in : List ℕ → ℕ → ℕ → ℕ → Option ℕ → ℕ
+lacking_in d fs low end (Some place) = lacking_from (on_disk d place) (file_of fs low) (covered fs low end)
+lacking_in d fs low end None = covered fs low end
 
 -- tape p is staged: it is open, and touched or the one that is appended to
 abbrev pub is_staged : List ℕ → ℕ → ℕ → Bool

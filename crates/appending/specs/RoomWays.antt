@@ -1,13 +1,11 @@
 -- The ways out of the functions of the rule of 15, the turns of its loop, and why counting up to 65 for each tape is enough. Assumes nothing.
-use Rattle.std.specs.Prelude.{◌≡◌, ◌≢◌, true, false, not, cond, ◌||◌, List, eqb, ltb}
+use Rattle.std.specs.Prelude.{◌≡◌, ◌≢◌, true, false, not, cond, ◌||◌, List, eqb, ltb, Option, Some, None}
 use Rattle.std.proofs.Common.{sym, ap, ◌∙◌, true≢false, div-le_self, lt-ltb, le-ltb, eq-eqb, ne_eqb}
 use Prim.Native.Nat.{ℕ, suc, ◌+◌, ◌-◌, ◌≤◌, ◌<◌, ◌^◌, min}
 use native.Mathlib.Omega.{arith}
 use Rattle.octets.specs.Cases.{order, equal, and_l}
 use Rattle.octets.specs.First.{count-le}
 use Rattle.octets.specs.Number.{Bytes}
-use Rattle.octets.specs.declared.Found.{Found}
-use Rattle.octets.specs.declared.Found.TheVariants.{At, Nothing}
 use Rattle.components.specs.Pieces.{file_of}
 use Rattle.components.specs.PiecesLaws.{file-mono}
 use Rattle.components.specs.Slots.{lacking_from, covered}
@@ -25,11 +23,11 @@ use Rattle.appending.specs.Room.{low_of, end_of, lacking_in, is_staged, lacking_
 
 -- ---- one directory
 
-module _ (d : List ℕ) (fs low end : ℕ) (q : Found) (first count : ℕ) (begins : first ≡ file_of fs low) (many : count ≡ covered fs low end) where
-  pub lacking-there : (place : ℕ) → q ≡ At place → min (lacking_from (on_disk d place) first count) 65 ≡ min (lacking_in d fs low end q) 65
+module _ (d : List ℕ) (fs low end : ℕ) (q : Option ℕ) (first count : ℕ) (begins : first ≡ file_of fs low) (many : count ≡ covered fs low end) where
+  pub lacking-there : (place : ℕ) → q ≡ Some place → min (lacking_from (on_disk d place) first count) 65 ≡ min (lacking_in d fs low end q) 65
   lacking-there place e = rw (e, begins, many)
 
-  pub lacking-nowhere : q ≡ Nothing → min count 65 ≡ min (lacking_in d fs low end q) 65
+  pub lacking-nowhere : q ≡ None → min count 65 ≡ min (lacking_in d fs low end q) 65
   lacking-nowhere e = rw (e, many)
 
 -- the numbers of the files up to an end stay below it
@@ -75,7 +73,7 @@ module _ (d s : List ℕ) (to more p : ℕ) where
   lacking-idle e = rw e
 
   module _ (r : Staged) (row : r ≡ touched_as s p) (h : Handle) (handle : h ≡ handle_of s p) (behind : ℕ) (adds : behind ≡ cond (eqb p to) more 0) where
-    pub lacking-staged : (q : Found) → q ≡ directory_of d s p → (low end : ℕ) → low ≡ low_of r → end ≡ end_of r behind → is_staged s to p ≡ true
+    pub lacking-staged : (q : Option ℕ) → q ≡ directory_of d s p → (low end : ℕ) → low ≡ low_of r → end ≡ end_of r behind → is_staged s to p ≡ true
         → lacking_in d h.file_size low end q ≡ lacking_of d s to more p
     unfolding lacking_of
     lacking-staged q there low end a b e = rw (e, there, a, b, row, handle-size s p h handle, adds)

@@ -1,13 +1,11 @@
 // The rule of 15: the files that all staged bytes need and the disk lacks.
 ghost use Rattle.std.specs.Prelude.{◌≡◌, cond, ◌≢◌, ℕ, ◌+◌, ◌<◌, ◌^◌, min, eqb};
-ghost use Rattle.octets.specs.declared.Found.TheVariants.{At};
 ghost use Rattle.layout.specs.Disk.{Sound};
 ghost use Rattle.layout.specs.Session.{Begun};
 ghost use Rattle.staging.specs.Seeing.{touched_as};
 ghost use Rattle.appending.specs.Room.{low_of, end_of, lacking_in, is_staged, lacking_of, no_room};
 
 use layout::Session;
-use octets::Found;
 use session::Staged;
 
 // Where the staged bytes of a tape begin.
@@ -15,7 +13,7 @@ fn low_of(row: Staged) -> u64
     ensures { result ≡ low_of row }
 {
     let unwritten_from = components::above(row.len, row.unwritten as u64);
-    octets::smaller(row.base as usize, unwritten_from as usize) as u64
+    row.base.min(unwritten_from)
 }
 
 // Where they end, with some more behind them.
@@ -24,20 +22,20 @@ fn end_of(row: Staged, more: usize) -> u64
     ensures { result ≡ end_of row more }
 {
     let end = row.len + more as u64;
-    octets::larger(end as usize, row.unwritten) as u64
+    end.max(row.unwritten as u64)
 }
 
 // How many files of the bytes from low up to an end a directory lacks, counted up to 65: no disk has more
 // than 64 slots.
-fn lacking_in(disk: &[u8], file_size: u64, low: u64, end: u64, directory: Found) -> u64
-    requires { Sound disk.now × ((0 < file_size) × ((place : ℕ) → directory ≡ At place → place < 8)) }
+fn lacking_in(disk: &[u8], file_size: u64, low: u64, end: u64, directory: Option<usize>) -> u64
+    requires { Sound disk.now × ((0 < file_size) × ((place : ℕ) → directory ≡ Some place → place < 8)) }
     ensures { result ≡ min (lacking_in disk.now file_size low end directory) 65 }
 {
     let first = components::file_of(file_size, low);
     let count = components::files_covered(file_size, low, end);
     match directory {
-        Found::At(place) => rolling_tape::lacking_files(disk, place, first, count, 65),
-        Found::Nothing => octets::smaller(count as usize, 65) as u64,
+        Some(place) => rolling_tape::lacking_files(disk, place, first, count, 65),
+        None => count.min(65),
     }
 }
 
@@ -95,10 +93,8 @@ pub fn no_room(disk: &[u8], session: &[u8], to: usize, more: usize) -> bool
     ensures { result ≡ no_room disk.now session.now to more }
 {
     let mut lacking = 0;
-    let mut i = 0;
-    while i < Session::MOST_TAPES {
+    for i in 0..Session::MOST_TAPES {
         lacking += lacking_of(disk, session, to, more, i);
-        i += 1;
     }
     (disk::slot_count(disk) as u64) < disk::count_files(disk) as u64 + lacking
 }

@@ -1,8 +1,7 @@
 -- Laws of `format`: each way out, that its contract leaves nothing open, that a refused one changes nothing, and what a served one means: an empty disk,
 -- and no session. Assumes nothing.
-use Rattle.std.specs.Prelude.{◌≡◌, refl, ◌≢◌, true, false, List, ℕ, ◌≤◌, ◌<◌, length}
+use Rattle.std.specs.Prelude.{◌≡◌, refl, ◌≢◌, true, false, List, ℕ, ◌≤◌, ◌<◌, length, None}
 use Rattle.std.proofs.Common.{sym, ap, subst, ◌∙◌, arith}
-use Rattle.std.proofs.Math.Option.{none}
 use borrow.Author.Tests.{lt-ltb, le-ltb}
 use Rattle.octets.specs.Cases.{order}
 use Rattle.layout.specs.Disk.{data_at, Sound}
@@ -83,7 +82,7 @@ pub record Served (n : ℕ) (o : Outcome) : Type 0 where
   pub disk-empty : disk_of o.disk ≡ blank n
   pub session-sound : sound o.session ≡ true
   pub no-session : begun o.session ≡ false
-  pub none-running : running o.session ≡ none
+  pub none-running : running o.session ≡ None
 
 pub served : (d s : List ℕ) (n : ℕ) → code_of (format_step d s n).answer ≡ 0 → Served n (format_step d s n)
 served d s n =

@@ -1,7 +1,5 @@
 -- "Begin: 3, 4, 5, 18", behind 1. Assumes nothing.
-use Rattle.std.specs.Prelude.{cond, ◌&&◌, List, ℕ, ltb}
-use Rattle.octets.specs.declared.Found.{Found}
-use Rattle.octets.specs.declared.Found.TheVariants.{At, Nothing}
+use Rattle.std.specs.Prelude.{cond, ◌&&◌, List, ℕ, ltb, Option, Some, None}
 use Rattle.answers.specs.declared.Refusal.TheVariants.{Unusable, WriterOpen, Wait, Full}
 use Rattle.session.specs.Rows.{head_of, free_reader}
 use Rattle.session.specs.declared.transactions.Kind.TheVariants.{Reader, Append, Truncate}
@@ -20,9 +18,9 @@ append_call d s =
 unfoldable pub truncate_call : List ℕ → List ℕ → After
 truncate_call d s = cond (usable d s) (cond (is_open_at s 16) (refused WriterOpen s) (begin_at s 16 Truncate)) (refused Unusable s)
 
-abbrev pub reader_in : List ℕ → Found → After
-reader_in s (At t) = begin_at s t Reader
-reader_in s Nothing = refused Full s
+abbrev pub reader_in : List ℕ → Option ℕ → After
+reader_in s (Some t) = begin_at s t Reader
+reader_in s None = refused Full s
 
 unfoldable pub reader_call : List ℕ → List ℕ → After
 reader_call d s = cond (usable d s) (reader_in s (free_reader s)) (refused Unusable s)

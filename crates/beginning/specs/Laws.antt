@@ -1,17 +1,14 @@
 -- What later work builds on. The contracts leave nothing open; a refused call changes nothing; what a call makes of areas that keep their rules keeps them;
 -- and what a served call means. Assumes nothing.
-use Rattle.std.specs.Prelude.{◌≡◌, refl, ◌≢◌, true, false, ◌&&◌, List, ℕ, ◌+◌, ◌≤◌, ◌<◌, ◌^◌, ltb}
+use Rattle.std.specs.Prelude.{◌≡◌, refl, ◌≢◌, true, false, ◌&&◌, List, ℕ, ◌+◌, ◌≤◌, ◌<◌, ◌^◌, ltb, Option, Some, None, Ok}
 use Rattle.std.proofs.Common.{sym, subst, ◌∙◌, arith}
 use Rattle.std.proofs.Math.Path.{ap}
 use Rattle.std.proofs.Math.ListN.{length}
 use Rattle.octets.specs.Cases.{decide, equal}
 use Rattle.octets.specs.Number.{Bytes, num_at-lt}
 use Rattle.octets.specs.First.{count, count_same}
-use Rattle.octets.specs.declared.Found.{Found}
-use Rattle.octets.specs.declared.Found.TheVariants.{At, Nothing}
 use Rattle.answers.specs.Answers.{refusal_number, code_of}
-use Rattle.answers.specs.declared.Answer.{Answer}
-use Rattle.answers.specs.declared.Answer.TheVariants.{Done}
+use Rattle.answers.specs.Answers.{Answer}
 use Rattle.answers.specs.declared.Refusal.{Refusal}
 use Rattle.answers.specs.declared.Refusal.TheVariants.{Unusable, Unknown, WriterOpen, Wait, Full, BadName, ReservedName, BadSize, AlreadyOpen, NotWhole, Absent, OutOfBounds, StartPastLength, LongerCut, NoSlot, Missing, BadList, TooLarge}
 use Rattle.areas.specs.Format as A
@@ -177,7 +174,7 @@ pub record MayBegin (d s : List ℕ) (t : ℕ) : Type 0 where
   pub number : (head_of s).last_transaction ≢ 0xffff_ffff_ffff_ffff
 
 abbrev pub begun_after : List ℕ → ℕ → Kind → After
-begun_after s t k = after (Done ((head_of s).last_transaction + 1)) (begun_at s t k)
+begun_after s t k = after (Ok ((head_of s).last_transaction + 1)) (begun_at s t k)
 
 pub begin-cases : (P : After → Type 0) (s : List ℕ) (t : ℕ) (k : Kind) → ((why : Refusal) → P (refused why s))
     → ((head_of s).last_transaction ≢ 0xffff_ffff_ffff_ffff → P (begun_after s t k)) → P (begin_at s t k)
@@ -199,18 +196,18 @@ module _ (P : After → Type 0) (d s : List ℕ) (stays : (why : Refusal) → P 
       (λ bad. subst P (sym (truncate-unusable d s bad)) (stays Unusable))
 
   -- a reader begins in the first free place
-  pub reader-cases : ((t : ℕ) → MayBegin d s t → t < 16 → free_reader s ≡ At t → P (begun_after s t Reader)) → P (reader_call d s)
+  pub reader-cases : ((t : ℕ) → MayBegin d s t → t < 16 → free_reader s ≡ Some t → P (begun_after s t Reader)) → P (reader_call d s)
   reader-cases goes =
       decide (usable d s)
       (λ ok. by ok (free_reader s) refl)
       (λ bad. subst P (sym (reader-unusable d s bad)) (stays Unusable))
     where
-      by : usable d s ≡ true → (f : Found) → free_reader s ≡ f → P (reader_call d s)
-      by ok (At t) e =
+      by : usable d s ≡ true → (f : Option ℕ) → free_reader s ≡ f → P (reader_call d s)
+      by ok (Some t) e =
           let low = free-low s t e in
           subst P (sym (reader-begins d s ok t e))
           (begin-cases P s t Reader stays (λ h. goes t (record { areas = ok; place = omega arith; free = free-closed s t e; number = h }) low e))
-      by ok Nothing e = subst P (sym (reader-full d s ok e)) (stays Full)
+      by ok None e = subst P (sym (reader-full d s ok e)) (stays Full)
 
 -- ---- a refused call changes nothing
 
@@ -255,7 +252,7 @@ module _ (d s : List ℕ) (bytes : Bytes s) where
       (λ why e. absurd (refusal-some why e)) (λ may e. means 16 Truncate may)
 
   -- the place is the first free one
-  pub reader-means : (t : ℕ) → free_reader s ≡ At t → code_of (reader_call d s).answer ≡ 0 → session_of (reader_call d s).session ≡ begun_in (session_of s) t Reader
+  pub reader-means : (t : ℕ) → free_reader s ≡ Some t → code_of (reader_call d s).answer ≡ 0 → session_of (reader_call d s).session ≡ begun_in (session_of s) t Reader
   reader-means t found =
       reader-cases (λ o. code_of o.answer ≡ 0 → session_of o.session ≡ begun_in (session_of s) t Reader) d s
       (λ why e. absurd (refusal-some why e))

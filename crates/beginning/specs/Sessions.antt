@@ -1,6 +1,5 @@
 -- "`store` begins a session": with the list of the record that counts. "Store: 17", behind 1. Assumes nothing.
-use Rattle.std.specs.Prelude.{Bool, cond, ◌&&◌, List, ℕ}
-use Rattle.answers.specs.declared.Answer.TheVariants.{Done}
+use Rattle.std.specs.Prelude.{Bool, cond, ◌&&◌, List, ℕ, Ok}
 use Rattle.answers.specs.declared.Refusal.TheVariants.{Unusable, BadList}
 use Rattle.metadata.specs.Decoding.{Listing, tapes, unreadable}
 use Rattle.metadata.specs.Choice.{chosen, next_side, chosen_epoch, chosen_list}
@@ -20,7 +19,7 @@ the_record d = chosen (side_bytes d Left) (side_bytes d Right)
 
 abbrev pub start_with : List ℕ → List ℕ → Listing → After
 start_with d s (tapes ts) =
-    after (Done (chosen_epoch (the_record d))) (begin_session s (chosen_epoch (the_record d)) (next_side (side_bytes d Left) (side_bytes d Right)) ts)
+    after (Ok (chosen_epoch (the_record d))) (begin_session s (chosen_epoch (the_record d)) (next_side (side_bytes d Left) (side_bytes d Right)) ts)
 start_with d s unreadable = refused BadList s
 
 unfoldable pub store_call : List ℕ → List ℕ → After

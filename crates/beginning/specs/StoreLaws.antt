@@ -1,7 +1,7 @@
 -- Laws of `store`: a refused one changes nothing; a served one leaves a session that keeps the rule, and means the list of the record that counts. That
 -- its numbers are 64-bit ones is known since they are read from bytes. Assumes nothing.
 use Prim.{tt}
-use Rattle.std.specs.Prelude.{◌≡◌, refl, ◌≢◌, true, drop}
+use Rattle.std.specs.Prelude.{◌≡◌, refl, ◌≢◌, true, drop, Ok}
 use Rattle.std.proofs.Common.{sym, ap, subst, ◌∙◌, arith}
 use mathlib.Core.List.{List, [], ◌∷◌}
 use Prim.Native.Nat.{ℕ, zero, suc, ◌+◌, ◌≤◌, ◌<◌, ◌^◌}
@@ -11,7 +11,6 @@ use Rattle.octets.specs.Bytes.{put, length-put}
 use Rattle.octets.specs.Number.{put_num, length-put_num, Bytes, bytes_take, bytes_drop, bytes-zeros, num_at-lt}
 use Rattle.octets.specs.Only.{bytes-put, bytes-put_num}
 use Rattle.answers.specs.Answers.{code_of}
-use Rattle.answers.specs.declared.Answer.TheVariants.{Done}
 use Rattle.answers.specs.declared.Refusal.{Refusal}
 use Rattle.answers.specs.declared.Refusal.TheVariants.{Unusable, BadList}
 use Rattle.metadata.specs.Tapes.{Tape, good_after, good_list}
@@ -137,7 +136,7 @@ module _ (s : List ℕ) (long : session_bytes ≤ length s) (epoch : ℕ) (side 
 
 abbrev pub started_after : List ℕ → List ℕ → List Tape → After
 started_after d s ts =
-    after (Done (chosen_epoch (the_record d))) (begin_session s (chosen_epoch (the_record d)) (next_side (side_bytes d Left) (side_bytes d Right)) ts)
+    after (Ok (chosen_epoch (the_record d))) (begin_session s (chosen_epoch (the_record d)) (next_side (side_bytes d Left) (side_bytes d Right)) ts)
 
 pub store-cases : (P : After → Type 0) (d s : List ℕ) → ((why : Refusal) → P (refused why s))
     → ((ts : List Tape) → both_sound d s ≡ true → chosen_list (the_record d) ≡ tapes ts → P (started_after d s ts)) → P (store_call d s)

@@ -1,8 +1,7 @@
 -- A transaction begun in a place of the session; whom an append waits for. Assumes nothing.
-use Rattle.std.specs.Prelude.{Bool, cond, ◌&&◌, List, ℕ, ◌+◌, eqb, ltb}
+use Rattle.std.specs.Prelude.{Bool, cond, ◌&&◌, List, ℕ, ◌+◌, eqb, ltb, Ok, Err}
 use Rattle.octets.specs.First.{count}
-use Rattle.answers.specs.declared.Answer.{Answer}
-use Rattle.answers.specs.declared.Answer.TheVariants.{Done, Refused}
+use Rattle.answers.specs.Answers.{Answer}
 use Rattle.answers.specs.declared.Refusal.{Refusal}
 use Rattle.answers.specs.declared.Refusal.TheVariants.{TooLarge}
 use Rattle.layout.specs.Disk as D
@@ -21,7 +20,7 @@ after a s = record { answer = a; session = s }
 
 -- a refused call changes no lent byte
 abbrev pub refused : Refusal → List ℕ → After
-refused why s = after (Refused why) s
+refused why s = after (Err why) s
 
 -- both areas keep their layout rules and a session was begun: else 1
 unfoldable pub usable : List ℕ → List ℕ → Bool
@@ -54,4 +53,4 @@ begun_at s t k =
 unfoldable pub begin_at : List ℕ → ℕ → Kind → After
 begin_at s t k =
     cond (eqb (head_of s).last_transaction 0xffff_ffff_ffff_ffff) (refused TooLarge s)
-    (after (Done ((head_of s).last_transaction + 1)) (begun_at s t k))
+    (after (Ok ((head_of s).last_transaction + 1)) (begun_at s t k))

@@ -1,11 +1,9 @@
 -- The ways out of each call, in the code's order: a law for each. Assumes nothing.
-use Rattle.std.specs.Prelude.{◌≡◌, refl, ◌≢◌, true, false, not, List, ℕ, ◌+◌, ◌≤◌, ◌<◌, ltb}
+use Rattle.std.specs.Prelude.{◌≡◌, refl, ◌≢◌, true, false, not, List, ℕ, ◌+◌, ◌≤◌, ◌<◌, ltb, Some, None, Ok}
 use Rattle.std.proofs.Common.{sym, ap, ◌∙◌, arith}
 use borrow.Author.Tests.{lt-ltb, le-ltb, eq-eqb, ne_eqb}
 use Rattle.octets.specs.Cases.{and_l, and_r, and_both}
 use Rattle.octets.specs.First.{first-hits}
-use Rattle.octets.specs.declared.Found.TheVariants.{At, Nothing}
-use Rattle.answers.specs.declared.Answer.TheVariants.{Done}
 use Rattle.answers.specs.declared.Refusal.TheVariants.{Unusable, WriterOpen, Wait, Full, BadList, TooLarge}
 use Rattle.answers.specs.Outcome.{outcome}
 use Rattle.areas.specs.Format.{format_step}
@@ -97,7 +95,7 @@ module _ (s : List ℕ) (t : ℕ) (k : Kind) where
   unfolding begin_at
   numbers-out h = rw (eq-eqb (head_of s).last_transaction 0xffff_ffff_ffff_ffff h)
 
-  pub begins-at : (head_of s).last_transaction ≢ 0xffff_ffff_ffff_ffff → begin_at s t k ≡ after (Done ((head_of s).last_transaction + 1)) (begun_at s t k)
+  pub begins-at : (head_of s).last_transaction ≢ 0xffff_ffff_ffff_ffff → begin_at s t k ≡ after (Ok ((head_of s).last_transaction + 1)) (begun_at s t k)
   unfolding begin_at
   begins-at h = rw (ne_eqb (head_of s).last_transaction 0xffff_ffff_ffff_ffff h)
 
@@ -105,16 +103,16 @@ module _ (s : List ℕ) (t : ℕ) (k : Kind) where
   pub begun-writes : (h : Head) (a b c : List ℕ) → h ≡ head_of s → a ≡ put_transaction s t (record { kind = k; number = h.last_transaction + 1; epoch = h.epoch })
       → b ≡ copy_view a 17 t
       → c ≡ put_head b (record { epoch = h.epoch; cut = h.cut; side = h.side; last_transaction = h.last_transaction + 1; last_handle = h.last_handle })
-      → after (Done ((head_of s).last_transaction + 1)) (begun_at s t k) ≡ after (Done (h.last_transaction + 1)) c
+      → after (Ok ((head_of s).last_transaction + 1)) (begun_at s t k) ≡ after (Ok (h.last_transaction + 1)) c
   unfolding begun_at
   begun-writes h a b c same first second third = rw (third, second, first, same)
 
 -- a free reader's place is none of the writer's
-pub free-low : (s : List ℕ) (t : ℕ) → free_reader s ≡ At t → t < 16
+pub free-low : (s : List ℕ) (t : ℕ) → free_reader s ≡ Some t → t < 16
 unfolding free_reader
 free-low s t e = omega (arith, (first-hits (is_closed s) 16 0 t e).high)
 
-pub free-closed : (s : List ℕ) (t : ℕ) → free_reader s ≡ At t → is_open_at s t ≡ false
+pub free-closed : (s : List ℕ) (t : ℕ) → free_reader s ≡ Some t → is_open_at s t ≡ false
 unfolding free_reader is_open_at transaction_of
 free-closed s t e = open-kind (S.kind_word s t) ∙ ap not (first-hits (is_closed s) 16 0 t e).holds
 
@@ -142,11 +140,11 @@ module _ (d s : List ℕ) where
     unfolding truncate_call
     truncate-open h = rw (ok, h)
 
-    pub reader-full : free_reader s ≡ Nothing → reader_call d s ≡ refused Full s
+    pub reader-full : free_reader s ≡ None → reader_call d s ≡ refused Full s
     unfolding reader_call
     reader-full h = rw (ok, h)
 
-    pub reader-begins : (t : ℕ) → free_reader s ≡ At t → reader_call d s ≡ begin_at s t Reader
+    pub reader-begins : (t : ℕ) → free_reader s ≡ Some t → reader_call d s ≡ begin_at s t Reader
     unfolding reader_call
     reader-begins t h = rw (ok, h)
 
@@ -173,7 +171,7 @@ module _ (d s : List ℕ) where
 -- what the code has of a list that was read is that list
 pub start-read : (d s : List ℕ) (l : Listing) → (decoded_of l).readable ≡ true
     → start_with d s l
-    ≡ after (Done (chosen_epoch (the_record d))) (begin_session s (chosen_epoch (the_record d)) (next_side (side_bytes d Left) (side_bytes d Right)) (tapes_of (decoded_of l).list))
+    ≡ after (Ok (chosen_epoch (the_record d))) (begin_session s (chosen_epoch (the_record d)) (next_side (side_bytes d Left) (side_bytes d Right)) (tapes_of (decoded_of l).list))
 start-read d s (tapes ts) h = rw (tapes-of-list ts)
 start-read d s unreadable h = let z : ◌≡◌ {A = ℕ} 0 1 = cc in absurd (omega arith)
 
@@ -203,7 +201,7 @@ module _ (d s left right found : List ℕ) (list : Decoded) (ok : both_sound d s
   store-unread h = store-starts d s ok ∙ start-unread d s (chosen_list (the_record d)) (sym (ap (λ (c : Decoded). c.readable) the-list) ∙ h)
 
   pub store-read : (epoch : ℕ) (side : Side) (t : List ℕ) → list.readable ≡ true → epoch ≡ chosen_epoch found → side ≡ next_side left right
-      → t ≡ begin_session s epoch side (tapes_of list.list) → store_call d s ≡ after (Done epoch) t
+      → t ≡ begin_session s epoch side (tapes_of list.list) → store_call d s ≡ after (Ok epoch) t
   store-read epoch side t h e n w =
       store-starts d s ok
       ∙ start-read d s (chosen_list (the_record d)) (sym (ap (λ (c : Decoded). c.readable) the-list) ∙ h)

@@ -4,54 +4,53 @@ ghost use Rattle.beginning.specs.Transactions.{after};
 ghost use Rattle.beginning.specs.Calls.{append_call, reader_call, truncate_call};
 
 use crate::transactions::{begin_at, is_open, is_usable, waiting_for};
-use answers::{Answer, Refusal};
+use answers::Refusal;
 use layout::Session;
-use octets::Found;
 use session::Kind;
 
 // Begins an append and answers its number. Refused: 1, 3, 4, 18.
-pub fn append(disk: &[u8], session: &mut [u8]) -> Answer
+pub fn append(disk: &[u8], session: &mut [u8]) -> Result<u64, Refusal>
     ensures { append_call disk.now session.old ≡ after result session.new }
 {
     if is_usable(disk, session) {
         if is_open(session, Session::WRITER) {
-            return Answer::Refused(Refusal::WriterOpen);
+            return Err(Refusal::WriterOpen);
         }
         let head = session::get_head(session);
         if head.cut {
             let readers = waiting_for(session, head.epoch);
             if 0 < readers {
-                return Answer::Refused(Refusal::Wait(readers));
+                return Err(Refusal::Wait(readers));
             }
         }
         return begin_at(session, Session::WRITER, Kind::Append);
     }
-    Answer::Refused(Refusal::Unusable)
+    Err(Refusal::Unusable)
 }
 
 // Begins a truncate and answers its number. Refused: 1, 3, 18.
-pub fn truncate(disk: &[u8], session: &mut [u8]) -> Answer
+pub fn truncate(disk: &[u8], session: &mut [u8]) -> Result<u64, Refusal>
     ensures { truncate_call disk.now session.old ≡ after result session.new }
 {
     if is_usable(disk, session) {
         if is_open(session, Session::WRITER) {
-            return Answer::Refused(Refusal::WriterOpen);
+            return Err(Refusal::WriterOpen);
         }
         return begin_at(session, Session::WRITER, Kind::Truncate);
     }
-    Answer::Refused(Refusal::Unusable)
+    Err(Refusal::Unusable)
 }
 
 // Begins a reader and answers its number. Refused: 1, 5, 18.
-pub fn reader(disk: &[u8], session: &mut [u8]) -> Answer
+pub fn reader(disk: &[u8], session: &mut [u8]) -> Result<u64, Refusal>
     ensures { reader_call disk.now session.old ≡ after result session.new }
 {
     if is_usable(disk, session) {
         let free = session::free_reader(session);
-        let Found::At(place) = free else {
-            return Answer::Refused(Refusal::Full);
+        let Some(place) = free else {
+            return Err(Refusal::Full);
         };
         return begin_at(session, place, Kind::Reader);
     }
-    Answer::Refused(Refusal::Unusable)
+    Err(Refusal::Unusable)
 }

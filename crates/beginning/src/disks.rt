@@ -3,17 +3,17 @@ ghost use Rattle.std.specs.Prelude.{◌≡◌};
 ghost use Rattle.answers.specs.Outcome.{outcome};
 ghost use Rattle.beginning.specs.Disks.{format_call};
 
-use answers::{Answer, Refusal};
+use answers::Refusal;
 use areas::Formatted;
 
 // Makes an empty disk of so many slots and ends the session. Refused: 8, then 1.
-pub fn format(disk: &mut [u8], session: &mut [u8], slots: u64) -> Answer
+pub fn format(disk: &mut [u8], session: &mut [u8], slots: u64) -> Result<u64, Refusal>
     ensures { format_call disk.old session.old slots ≡ outcome result disk.new session.new }
 {
     let formatted = areas::format(disk, session, slots);
     match formatted {
-        Formatted::Done => Answer::Done(0),
-        Formatted::BadSlotCount => Answer::Refused(Refusal::BadSize),
-        Formatted::TooSmall => Answer::Refused(Refusal::Unusable),
+        Formatted::Done => Ok(0),
+        Formatted::BadSlotCount => Err(Refusal::BadSize),
+        Formatted::TooSmall => Err(Refusal::Unusable),
     }
 }

@@ -3,7 +3,7 @@ ghost use Rattle.std.specs.Prelude.{◌≡◌};
 ghost use Rattle.beginning.specs.Sessions.{both_sound, store_call};
 ghost use Rattle.beginning.specs.Transactions.{after};
 
-use answers::{Answer, Refusal};
+use answers::Refusal;
 use metadata::Side;
 
 // Whether both areas keep their layout rules.
@@ -17,7 +17,7 @@ fn both_sound(disk: &[u8], session: &[u8]) -> bool
 }
 
 // Begins a session with the list of the record that counts, and answers its epoch. Refused: 1, 17.
-pub fn store(disk: &[u8], session: &mut [u8]) -> Answer
+pub fn store(disk: &[u8], session: &mut [u8]) -> Result<u64, Refusal>
     ensures { store_call disk.now session.old ≡ after result session.new }
 {
     if both_sound(disk, session) {
@@ -30,9 +30,9 @@ pub fn store(disk: &[u8], session: &mut [u8]) -> Answer
             let side = metadata::next_side(left, right);
             let list = decoded.list;
             session::begin(session, epoch, side, list);
-            return Answer::Done(epoch);
+            return Ok(epoch);
         }
-        return Answer::Refused(Refusal::BadList);
+        return Err(Refusal::BadList);
     }
-    Answer::Refused(Refusal::Unusable)
+    Err(Refusal::Unusable)
 }

@@ -3,7 +3,7 @@ ghost use Rattle.std.specs.Prelude.{◌≡◌, ◌≤◌, ◌<◌, length};
 ghost use Rattle.layout.specs.Session.{session_bytes};
 ghost use Rattle.beginning.specs.Transactions.{usable, is_older, waiting_for, begin_at, is_open_at, after};
 
-use answers::{Answer, Refusal};
+use answers::Refusal;
 use layout::Session;
 use session::{Head, Kind, Transaction};
 
@@ -48,13 +48,9 @@ pub fn waiting_for(session: &[u8], epoch: u64) -> u64
     ensures { result ≡ waiting_for session.now epoch }
 {
     let mut found = 0;
-    let mut i = 0;
-    while i < Session::MOST_READERS {
+    for i in 0..Session::MOST_READERS {
         if is_older(session, i, epoch) {
             found += 1;
-            i += 1;
-        } else {
-            i += 1;
         }
     }
     found
@@ -62,14 +58,14 @@ pub fn waiting_for(session: &[u8], epoch: u64) -> u64
 
 // A transaction begun in a place that is free: it gets the next number, the present epoch and the list
 // as its view. Refused: 18.
-pub fn begin_at(session: &mut [u8], place: usize, kind: Kind) -> Answer
+pub fn begin_at(session: &mut [u8], place: usize, kind: Kind) -> Result<u64, Refusal>
     requires { (session_bytes ≤ length session.old) × (place < 17) }
     ensures { begin_at session.old place kind ≡ after result session.new }
 {
     let head = session::get_head(session);
     let last = head.last_transaction;
     if last == 0xffff_ffff_ffff_ffff {
-        return Answer::Refused(Refusal::TooLarge);
+        return Err(Refusal::TooLarge);
     }
     let number = last + 1;
     session::put_transaction(
@@ -93,5 +89,5 @@ pub fn begin_at(session: &mut [u8], place: usize, kind: Kind) -> Answer
             last_handle: head.last_handle,
         },
     );
-    Answer::Done(number)
+    Ok(number)
 }

@@ -21,10 +21,8 @@ fn words_of(block: &[u8; 128]) -> [u64; 16]
     ensures { result ≡ words_from 16 block.now 0 }
 {
     let mut m = [0u64; 16];
-    let mut j = 0;
-    while j < 16 {
+    for j in 0..16 {
         m[j] = octets::u64_at(block, 8 * j);
-        j += 1;
     }
     m
 }
@@ -37,11 +35,9 @@ fn work_vector(h: &[u64; 8], t: u64, last: bool) -> [u64; 16]
     // As a slice, since a proof learns there that h has eight words; so in `fold`.
     let words: &[u64] = h;
     let mut v = [0u64; 16];
-    let mut i = 0;
-    while i < 8 {
+    for i in 0..8 {
         v[i] = words[i];
         v[i + 8] = IV[i];
-        i += 1;
     }
     v[12] = xor(v[12], t);
     if last {
@@ -55,10 +51,8 @@ fn fold(h: &mut [u64; 8], v: &[u64; 16])
     ensures { h.new ≡ fold_from 0 h.old v.now }
 {
     let words: &mut [u64] = h;
-    let mut i = 0;
-    while i < 8 {
+    for i in 0..8 {
         words[i] = xor(xor(words[i], v[i]), v[i + 8]);
-        i += 1;
     }
 }
 

@@ -39,10 +39,8 @@ fn bytes_of(h: &[u64; 8]) -> [u8; 64]
     // As a slice, since a proof learns there that h has eight words.
     let words: &[u64] = h;
     let mut bytes = [0u8; 64];
-    let mut i = 0;
-    while i < 8 {
+    for i in 0..8 {
         octets::put_u64(&mut bytes, 8 * i, words[i]);
-        i += 1;
     }
     bytes
 }

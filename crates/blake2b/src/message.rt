@@ -12,8 +12,8 @@ fn lay(block: &mut [u8; 128], at: usize, part: &[u8], from: usize)
 {
     // As a slice, since a proof learns there that the block has 128 bytes.
     let whole: &mut [u8] = block;
-    let first = octets::larger(at, from);
-    let stop = octets::smaller(at + 128, from + part.len());
+    let first = at.max(from);
+    let stop = (at + 128).min(from + part.len());
     if first < stop {
         let a = first - from;
         let e = stop - from;

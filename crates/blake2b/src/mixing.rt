@@ -174,9 +174,7 @@ fn round(v: &mut [u64; 16], m: &[u64; 16], i: usize)
 pub(crate) fn twelve_rounds(v: &mut [u64; 16], m: &[u64; 16])
     ensures { v.new ≡ rounds m.now 12 v.old }
 {
-    let mut i = 0;
-    while i < 12 {
+    for i in 0..12 {
         round(v, m, i % 10);
-        i += 1;
     }
 }

@@ -10,7 +10,7 @@ pub fn first_cached(capacity: u64, len: u64, start: u64) -> u64
     ensures { result ≡ first_cached capacity len start }
 {
     let top = components::above(len, capacity);
-    octets::larger(top as usize, start as usize) as u64
+    top.max(start)
 }
 
 // A new ring of a capacity with these bytes of the tape from an index on.

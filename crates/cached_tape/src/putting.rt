@@ -37,7 +37,7 @@ fn cache(session: &mut [u8], tape: usize, len: u64, src: &[u8])
 {
     let before = session::get_ring(session, tape);
     let ring = before.prepare_write(len);
-    let n = octets::smaller(src.len(), ring.capacity);
+    let n = src.len().min(ring.capacity);
     let by = src.len() - n;
     session::push_ring(session, tape, ring, &src[by..]);
     session::put_ring(session, tape, ring.push(n, by as u64));

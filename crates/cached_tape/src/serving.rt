@@ -12,7 +12,7 @@ fn below_cache(session: &[u8], tape: usize, offset: u64, count: usize) -> usize
 {
     let ring = session::get_ring(session, tape);
     let below = components::above(ring.first, offset);
-    octets::smaller(count, below as usize)
+    count.min(below as usize)
 }
 
 // Whether so many bytes of a tape from an offset on can be read: those that are not the cache's have to

@@ -1,7 +1,6 @@
 -- Older readers counted, and the oldest of the others: a file is kept as long as anyone who may read it is open. Assumes nothing.
-use Rattle.std.specs.Prelude.{◌≡◌, refl, false, ℕ, suc, ◌+◌, ◌≤◌, ◌<◌, min, ltb, length}
+use Rattle.std.specs.Prelude.{◌≡◌, refl, false, ℕ, suc, ◌+◌, ◌≤◌, ◌<◌, min, ltb, length, Some}
 use Rattle.std.proofs.Common.{sym, ap, ◌∙◌, ⊎_elim, zero-add, suc-add, arith, lt-ltb, le-ltb}
-use Rattle.std.proofs.Math.Option.{some}
 use mathlib.Core.List.Memᴰ
 use mathlib.Core.List.{List, [], ◌∷◌, ◌++◌, Memᴰ}
 use Rattle.octets.specs.Cases.{picked, decide, order}
@@ -82,5 +81,5 @@ unfolding oldest_other
 oldest-member own e es = least-member e es
 
 -- a file that fell out of range at an epoch stays as long as a transaction of that epoch or an older one is open
-pub kept_for : (own : ℕ) (es : List ℕ) (f : Files) (k : ℕ) {e m : ℕ} → Memᴰ e es → (f k).mark ≡ some m → e ≤ m → removes (oldest_other own es) f k ≡ false
+pub kept_for : (own : ℕ) (es : List ℕ) (f : Files) (k : ℕ) {e m : ℕ} → Memᴰ e es → (f k).mark ≡ Some m → e ≤ m → removes (oldest_other own es) f k ≡ false
 kept_for own es f k x q l = kept-young (oldest_other own es) f k q (omega (arith, oldest-le own es x))

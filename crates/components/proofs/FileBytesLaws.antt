@@ -1,11 +1,11 @@
 -- A file after a write: how long it is, and the byte at each place, be it new, old or in the hole. Assumes nothing.
-use Rattle.std.specs.Prelude.{◌≡◌, ℕ, zero, suc, ◌+◌, ◌-◌, ◌≤◌, ◌<◌, max, set}
+use Rattle.std.proofs.lemmas.Option.{none-some}
+use Rattle.std.specs.Prelude.{◌≡◌, ℕ, zero, suc, ◌+◌, ◌-◌, ◌≤◌, ◌<◌, max, set, Some, None, slice_get}
 use Rattle.std.proofs.Math.Path.{refl, ap}
 use Rattle.std.proofs.Common.{sym, ◌∙◌, add-zero, length-set, length-append}
-use Rattle.std.proofs.Math.Option.{none, some, none-ne-some}
 use mathlib.Core.List.{List, [], ◌∷◌, ◌++◌, append_assoc, append-nil}
 use native.Mathlib.Omega.{arith}
-use Rattle.std.proofs.Math.ListN.{length, get_or, replicate, get_or-replicate, get_or-append, get_elem?}
+use Rattle.std.proofs.Math.ListN.{length, get_or, replicate, get_or-replicate, get_or-append}
 use Rattle.std.proofs.lemmas.List.{length-replicate, replicate-append-replicate, set-append_left}
 use Rattle.std.proofs.Math.Seq.{get_or-append-add}
 use Rattle.octets.specs.Bytes.{put, length-put, get_or-put-in, get_or-put-other, put-append}
@@ -13,18 +13,18 @@ use Rattle.components.specs.FileBytes.{written}
 
 -- ---- the byte at a place of a list, there or not
 
-pub at_some : (l : List ℕ) (i : ℕ) → i < length l → get_elem? l i ≡ some (get_or l i 0)
+pub at_some : (l : List ℕ) (i : ℕ) → i < length l → slice_get l i ≡ Some (get_or l i 0)
 at_some [] i h = absurd (omega arith)
 at_some (x ∷ l) zero h = refl
 at_some (x ∷ l) (suc i) h = at_some l i (omega arith)
 
-pub at_none : (l : List ℕ) (i : ℕ) → length l ≤ i → get_elem? l i ≡ none
+pub at_none : (l : List ℕ) (i : ℕ) → length l ≤ i → slice_get l i ≡ None
 at_none [] i h = refl
 at_none (x ∷ l) zero h = absurd (omega arith)
 at_none (x ∷ l) (suc i) h = at_none l i (omega arith)
 
-pub at-inside : (l : List ℕ) (i : ℕ) {x : ℕ} → get_elem? l i ≡ some x → i < length l
-at-inside [] i e = absurd (none-ne-some _ e)
+pub at-inside : (l : List ℕ) (i : ℕ) {x : ℕ} → slice_get l i ≡ Some x → i < length l
+at-inside [] i e = absurd (none-some _ e)
 at-inside (y ∷ l) zero e = omega arith
 at-inside (y ∷ l) (suc i) e = omega (arith, at-inside l i e)
 
@@ -67,16 +67,16 @@ module _ (f : List ℕ) (at : ℕ) where
       ∙ get_or-replicate (at + length (b ∷ bs) - length f) (p - length f) 0 0 (omega arith)
 
   -- the same, where the file may be too short
-  pub written-here : (bs : List ℕ) (j : ℕ) → j < length bs → get_elem? (written f at bs) (at + j) ≡ some (get_or bs j 0)
+  pub written-here : (bs : List ℕ) (j : ℕ) → j < length bs → slice_get (written f at bs) (at + j) ≡ Some (get_or bs j 0)
   written-here bs j h =
       at_some (written f at bs) (at + j) (omega (arith, length-written bs (omega arith)))
-      ∙ ap (λ (x : ℕ). some x) (written_new bs j h)
+      ∙ ap (λ (x : ℕ). Some x) (written_new bs j h)
 
-  pub written-kept : (bs : List ℕ) (p : ℕ) {x : ℕ} → (at ≤ p → at + length bs ≤ p) → get_elem? f p ≡ some x → get_elem? (written f at bs) p ≡ some x
+  pub written-kept : (bs : List ℕ) (p : ℕ) {x : ℕ} → (at ≤ p → at + length bs ≤ p) → slice_get f p ≡ Some x → slice_get (written f at bs) p ≡ Some x
   written-kept bs p {x} h e =
       let l : p < length f = at-inside f p e in
       at_some (written f at bs) p (omega (arith, never-shorter bs))
-      ∙ ap (λ (x : ℕ). some x) (written-old bs p l h)
+      ∙ ap (λ (x : ℕ). Some x) (written-old bs p l h)
       ∙ sym (at_some f p l)
       ∙ e
 

@@ -1,14 +1,14 @@
 -- Marks, clearings, opening and removal: none changes a byte that stays, a mark is set once, and files go from the lowest on. Assumes nothing.
-use Rattle.std.specs.Prelude.{◌≡◌, refl, ◌⊎◌, Bool, true, false, cond, not, ◌&&◌, ◌||◌, ℕ, zero, suc, ◌≤◌, ◌<◌, ltb}
+use Rattle.octets.specs.Cases.{some-injective}
+use Rattle.std.proofs.lemmas.Option.{none-some}
+use Rattle.std.specs.Prelude.{◌≡◌, refl, ◌⊎◌, Bool, true, false, cond, not, ◌&&◌, ◌||◌, ℕ, zero, suc, ◌≤◌, ◌<◌, ltb, Option, Some, None, slice_get}
 use Rattle.std.proofs.Math.Path.{sym}
 use Rattle.std.proofs.Common.{ap, ◌∙◌, true≢false, arith}
 use Rattle.std.proofs.Math.Logic.{inl, inr}
 use Rattle.std.proofs.lemmas.Bool.{false≢true}
 use Rattle.std.proofs.Math.Bool.{and-false}
-use Rattle.std.proofs.Math.Option.{Option, none, some, none-ne-some, some-injective}
 use borrow.Author.Tests.{lt-ltb, le-ltb, le-leb, lt-leb, ltb-true, leb-false}
 use Rattle.std.proofs.Math.Dec.{leb}
-use Rattle.std.proofs.Math.ListN.{get_elem?}
 use Rattle.octets.specs.Cases.{picked, decide, equal, and_l, and_r}
 use Rattle.components.specs.Pieces.{file_of, place_in}
 use Rattle.components.specs.Files.{File, Files, gone, untracked, with_mark, byte_at, unmarked, marked_below, mark_below, ripe_below, removes, remove, clear_from, track}
@@ -31,11 +31,11 @@ module _ (n e : ℕ) (f : Files) (k : ℕ) where
   mark-alike = both-alike (ltb k n && ((f k).tracked && unmarked (f k).mark)) _ (f k)
 
   -- a tracked file below the start's gets the epoch, if it has none
-  pub mark-new : k < n → (f k).tracked ≡ true → (f k).mark ≡ none → (mark_below n e f k).mark ≡ some e
+  pub mark-new : k < n → (f k).tracked ≡ true → (f k).mark ≡ None → (mark_below n e f k).mark ≡ Some e
   unfolding mark_below
   mark-new l t q = rw (lt-ltb k n l, t, q)
 
-  pub mark-once : {d : ℕ} → (f k).mark ≡ some d → mark_below n e f k ≡ f k
+  pub mark-once : {d : ℕ} → (f k).mark ≡ Some d → mark_below n e f k ≡ f k
   unfolding mark_below
   mark-once {d} q = rw (q, and-false (f k).tracked, and-false (ltb k n))
 
@@ -48,17 +48,17 @@ module _ (n e : ℕ) (f : Files) (k : ℕ) where
   mark-untracked t = rw (t, and-false (ltb k n))
 
   -- a mark that is there was there before, or is this epoch
-  pub mark-mark : {d : ℕ} → (mark_below n e f k).mark ≡ some d → ((f k).mark ≡ some d) ⊎ ((d ≡ e) × (k < n))
+  pub mark-mark : {d : ℕ} → (mark_below n e f k).mark ≡ Some d → ((f k).mark ≡ Some d) ⊎ ((d ≡ e) × (k < n))
   unfolding mark_below
   mark-mark {d} =
-      picked (λ (g : File). g.mark ≡ some d → ((f k).mark ≡ some d) ⊎ ((d ≡ e) × (k < n))) (ltb k n && ((f k).tracked && unmarked (f k).mark)) (with_mark (some e) (f k)) (f k)
+      picked (λ (g : File). g.mark ≡ Some d → ((f k).mark ≡ Some d) ⊎ ((d ≡ e) × (k < n))) (ltb k n && ((f k).tracked && unmarked (f k).mark)) (with_mark (Some e) (f k)) (f k)
       (λ t h. inr (sym (some-injective e d h), ltb-true k n (and_l _ _ t)))
       (λ _ h. inl h)
 
 -- marked again, the first mark stays
-pub mark-twice : (n m e d : ℕ) (f : Files) (k : ℕ) → k < n → (f k).tracked ≡ true → (f k).mark ≡ none → (mark_below m d (mark_below n e f) k).mark ≡ some e
+pub mark-twice : (n m e d : ℕ) (f : Files) (k : ℕ) → k < n → (f k).tracked ≡ true → (f k).mark ≡ None → (mark_below m d (mark_below n e f) k).mark ≡ Some e
 mark-twice n m e d f k l t q =
-    let one : (mark_below n e f k).mark ≡ some e = mark-new n e f k l t q in
+    let one : (mark_below n e f k).mark ≡ Some e = mark-new n e f k l t q in
     ap (λ (g : File). g.mark) (mark-once m d (mark_below n e f) k one) ∙ one
 
 pub mark-byte : (fs n e : ℕ) (f : Files) (o : ℕ) → byte_at fs (mark_below n e f) o ≡ byte_at fs f o
@@ -69,9 +69,9 @@ mark-byte fs n e f o = alike-byte fs (mark_below n e f) f o (mark-alike n e f (f
 module _ (n : ℕ) (f : Files) (k : ℕ) where
   pub clear-alike : Alike (clear_from n f k) (f k)
   unfolding clear_from
-  clear-alike = both-alike (leb n k) none (f k)
+  clear-alike = both-alike (leb n k) None (f k)
 
-  pub clear-from : n ≤ k → (clear_from n f k).mark ≡ none
+  pub clear-from : n ≤ k → (clear_from n f k).mark ≡ None
   unfolding clear_from
   clear-from l = rw (le-leb n k l)
 
@@ -79,11 +79,11 @@ module _ (n : ℕ) (f : Files) (k : ℕ) where
   unfolding clear_from
   clear-below l = rw (lt-leb n k l)
 
-  pub clear-mark : {e : ℕ} → (clear_from n f k).mark ≡ some e → ((f k).mark ≡ some e) × (k < n)
+  pub clear-mark : {e : ℕ} → (clear_from n f k).mark ≡ Some e → ((f k).mark ≡ Some e) × (k < n)
   unfolding clear_from
   clear-mark {e} =
-      picked (λ (g : File). g.mark ≡ some e → ((f k).mark ≡ some e) × (k < n)) (leb n k) (with_mark none (f k)) (f k)
-      (λ _ h. absurd (none-ne-some e h))
+      picked (λ (g : File). g.mark ≡ Some e → ((f k).mark ≡ Some e) × (k < n)) (leb n k) (with_mark None (f k)) (f k)
+      (λ _ h. absurd (none-some e h))
       (λ t h. (h, leb-false n k t))
 
 pub clear-byte : (fs n : ℕ) (f : Files) (o : ℕ) → byte_at fs (clear_from n f) o ≡ byte_at fs f o
@@ -100,23 +100,23 @@ module _ (n : ℕ) (f : Files) (k : ℕ) where
   unfolding track
   track-there = picked (λ (g : File). g.there ≡ (f k).there) (leb k n && (f k).there) _ (untracked (f k)) (λ t. sym (and_r (leb k n) _ t)) (λ _. refl)
 
-  pub track-mark : (track n f k).mark ≡ none
+  pub track-mark : (track n f k).mark ≡ None
   unfolding track
-  track-mark = picked (λ (g : File). g.mark ≡ none) (leb k n && (f k).there) _ (untracked (f k)) (λ _. refl) (λ _. refl)
+  track-mark = picked (λ (g : File). g.mark ≡ None) (leb k n && (f k).there) _ (untracked (f k)) (λ _. refl) (λ _. refl)
 
   pub track-tracked : (track n f k).tracked ≡ leb k n && (f k).there
   unfolding track
   track-tracked = picked (λ (g : File). g.tracked ≡ leb k n && (f k).there) (leb k n && (f k).there) _ (untracked (f k)) (λ t. sym t) (λ t. sym t)
 
-pub track-byte : (fs n : ℕ) (f : Files) (o : ℕ) → file_of fs o ≤ n → (f (file_of fs o)).there ≡ true → byte_at fs (track n f) o ≡ get_elem? (f (file_of fs o)).bytes (place_in fs o)
+pub track-byte : (fs n : ℕ) (f : Files) (o : ℕ) → file_of fs o ≤ n → (f (file_of fs o)).there ≡ true → byte_at fs (track n f) o ≡ slice_get (f (file_of fs o)).bytes (place_in fs o)
 unfolding byte_at track
 track-byte fs n f o l t = rw (le-leb (file_of fs o) n l, t)
 
 -- ---- removal
 
-marked-is : (oldest : ℕ) (q : Option ℕ) → marked_below oldest q ≡ true → (e : ℕ) × (q ≡ some e) × (e < oldest)
-marked-is oldest none h = absurd (false≢true h)
-marked-is oldest (some e) h = (e, refl, ltb-true e oldest h)
+marked-is : (oldest : ℕ) (q : Option ℕ) → marked_below oldest q ≡ true → (e : ℕ) × (q ≡ Some e) × (e < oldest)
+marked-is oldest None h = absurd (false≢true h)
+marked-is oldest (Some e) h = (e, refl, ltb-true e oldest h)
 
 -- every lower tracked file is marked below the limit, and so are those below a lower number
 ripe-less : (oldest : ℕ) (f : Files) (k j : ℕ) → j ≤ k → ripe_below oldest f k ≡ true → ripe_below oldest f j ≡ true
@@ -154,7 +154,7 @@ module _ (oldest : ℕ) (f : Files) (k : ℕ) where
   pub removed-tracked : removes oldest f k ≡ true → (f k).tracked ≡ true
   removed-tracked t = and_l (f k).tracked _ t
 
-  pub removed-mark : removes oldest f k ≡ true → (e : ℕ) × ((f k).mark ≡ some e) × (e < oldest)
+  pub removed-mark : removes oldest f k ≡ true → (e : ℕ) × ((f k).mark ≡ Some e) × (e < oldest)
   removed-mark t = marked-is oldest (f k).mark (and_l (marked_below oldest (f k).mark) _ (and_r (f k).tracked _ t))
 
   -- from the lowest on: with it go the lower tracked ones, and one that stays keeps the higher ones
@@ -169,30 +169,30 @@ module _ (oldest : ℕ) (f : Files) (k : ℕ) where
   pub kept-untracked : (f k).tracked ≡ false → removes oldest f k ≡ false
   kept-untracked q = rw q
 
-  pub kept-unmarked : (f k).mark ≡ none → removes oldest f k ≡ false
+  pub kept-unmarked : (f k).mark ≡ None → removes oldest f k ≡ false
   kept-unmarked q = rw (q, and-false (f k).tracked)
 
-  pub kept-young : {e : ℕ} → (f k).mark ≡ some e → oldest ≤ e → removes oldest f k ≡ false
+  pub kept-young : {e : ℕ} → (f k).mark ≡ Some e → oldest ≤ e → removes oldest f k ≡ false
   kept-young {e} q l = rw (q, le-ltb e oldest l, and-false (f k).tracked)
 
   -- what goes: the lowest tracked file, and whatever only such files lie below, if it is marked below the limit
-  pub goes : {e : ℕ} → (f k).tracked ≡ true → (f k).mark ≡ some e → e < oldest
+  pub goes : {e : ℕ} → (f k).tracked ≡ true → (f k).mark ≡ Some e → e < oldest
       → ((j : ℕ) → j < k → (f j).tracked ≡ true → removes oldest f j ≡ true)
       → removes oldest f k ≡ true
   goes {e} t q l h = rw (t, q, lt-ltb e oldest l) (→ripe oldest f k (λ j m u. and_l (marked_below oldest (f j).mark) _ (and_r (f j).tracked _ (h j m u))))
 
   -- a mark that is there was there before
-  pub remove-mark : {e : ℕ} → (remove oldest f k).mark ≡ some e → (f k).mark ≡ some e
+  pub remove-mark : {e : ℕ} → (remove oldest f k).mark ≡ Some e → (f k).mark ≡ Some e
   unfolding remove
-  remove-mark {e} = picked (λ (g : File). g.mark ≡ some e → (f k).mark ≡ some e) (removes oldest f k) gone (f k) (λ _ h. absurd (none-ne-some e h)) (λ _ h. h)
+  remove-mark {e} = picked (λ (g : File). g.mark ≡ Some e → (f k).mark ≡ Some e) (removes oldest f k) gone (f k) (λ _ h. absurd (none-some e h)) (λ _ h. h)
 
 -- no byte is made or changed; one is lost only with a file marked below the limit
-pub remove-byte : (fs oldest : ℕ) (f : Files) (o : ℕ) {x : ℕ} → byte_at fs (remove oldest f) o ≡ some x → byte_at fs f o ≡ some x
+pub remove-byte : (fs oldest : ℕ) (f : Files) (o : ℕ) {x : ℕ} → byte_at fs (remove oldest f) o ≡ Some x → byte_at fs f o ≡ Some x
 unfolding byte_at remove
 remove-byte fs oldest f o {x} =
-    picked (λ (g : File). cond (g.tracked && g.there) (get_elem? g.bytes (place_in fs o)) none ≡ some x → cond ((f (file_of fs o)).tracked && (f (file_of fs o)).there) (get_elem? (f (file_of fs o)).bytes (place_in fs o)) none ≡ some x)
+    picked (λ (g : File). cond (g.tracked && g.there) (slice_get g.bytes (place_in fs o)) None ≡ Some x → cond ((f (file_of fs o)).tracked && (f (file_of fs o)).there) (slice_get (f (file_of fs o)).bytes (place_in fs o)) None ≡ Some x)
     (removes oldest f (file_of fs o)) gone (f (file_of fs o))
-    (λ _ h. absurd (none-ne-some x h))
+    (λ _ h. absurd (none-some x h))
     (λ _ h. h)
 
 pub remove-keeps : (fs oldest : ℕ) (f : Files) (o : ℕ) → removes oldest f (file_of fs o) ≡ false → byte_at fs (remove oldest f) o ≡ byte_at fs f o

@@ -1,9 +1,8 @@
 -- Marks lie from the lowest tracked file on, whatever steps were taken. It follows, and is not stated here, that the Rust's loops, which mark downward
 -- up to the first mark and clear upward up to the first file without one, do what `mark_below` and `clear_from` say of each number. Assumes nothing.
-use Rattle.std.specs.Prelude.{◌≡◌, refl, true, false, cond, List, [], ◌∷◌, ℕ, ◌+◌, ◌<◌}
+use Rattle.std.specs.Prelude.{◌≡◌, refl, true, false, cond, List, [], ◌∷◌, ℕ, ◌+◌, ◌<◌, None}
 use Rattle.std.proofs.Common.{sym, ◌∙◌, true≢false, arith}
 use Rattle.std.proofs.lemmas.Bool.{false≢true}
-use Rattle.std.proofs.Math.Option.{none}
 use borrow.Author.Tests.{lt-ltb, le-ltb, ne_eqb, eq-eqb}
 use Rattle.octets.specs.Cases.{decide, order, equal}
 use Rattle.components.specs.Pieces.{file_of}
@@ -62,7 +61,7 @@ module _ (fs : ℕ) (f : Files) (o b : ℕ) where
       (λ l. absurd (false≢true (rw (ne_eqb k (file_of fs o) n, s, lt-ltb (file_of fs o) k l) at t)))
       (λ l. rw (s, le-ltb (file_of fs o) k l) (refl, λ m. absurd (omega arith)))))
 
-  here-mark : (write_byte fs f o b (file_of fs o)).mark ≡ cond (f (file_of fs o)).tracked (f (file_of fs o)).mark none
+  here-mark : (write_byte fs f o b (file_of fs o)).mark ≡ cond (f (file_of fs o)).tracked (f (file_of fs o)).mark None
   unfolding write_byte
   here-mark = rw (eq-eqb (file_of fs o) (file_of fs o) refl)
 
@@ -71,7 +70,7 @@ module _ (fs : ℕ) (f : Files) (o b : ℕ) where
       let n = file_of fs o in
       equal k n
       (λ e.
-      let mine : unmarked (cond (f n).tracked (f n).mark none) ≡ false = rw (e, here-mark) at m in
+      let mine : unmarked (cond (f n).tracked (f n).mark None) ≡ false = rw (e, here-mark) at m in
       let (p, _) = other-same j (λ q. omega arith) t in
       decide (f n).tracked
       (λ s. rw p (h j n (omega arith) (rw p at t) s (rw s at mine)))

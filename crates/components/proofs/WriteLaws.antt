@@ -1,16 +1,15 @@
 -- A run of bytes written over a tape's files: what stands below it, in it, and what it does to each file. Assumes nothing.
-use Rattle.std.specs.Prelude.{◌≡◌, ◌≢◌, true, cond, not, ◌&&◌, eqb, length, get_or, take, drop}
+use Rattle.std.proofs.lemmas.Option.{none-some}
+use Rattle.std.specs.Prelude.{◌≡◌, ◌≢◌, true, cond, not, ◌&&◌, eqb, length, get_or, take, drop, Option, Some, None, slice_get}
 use Rattle.std.proofs.Math.Path.{refl, fun_ext}
 use Rattle.std.proofs.Common.{sym, ap, ◌∙◌, take-append-drop, length-drop, drop_of_length-le, length-take-le, drop-drop}
 use Rattle.std.proofs.Math.Bool.{and-false}
-use Rattle.std.proofs.Math.Option.{Option, none, some, none-ne-some}
 use mathlib.Core.List.{List, [], ◌∷◌, ◌++◌}
 use Prim.Native.Nat.{ℕ, zero, suc, ◌+◌, ◌-◌, ◌≤◌, ◌<◌}
 use Rattle.std.proofs.Math.Nat.{add-zero, add_assoc}
 use native.Mathlib.Omega.{arith}
 use borrow.Author.Tests.{eq-eqb, ne_eqb, le-ltb}
 use Rattle.std.proofs.Math.Dec.{ltb}
-use Rattle.std.proofs.Math.ListN.{get_elem?}
 use Rattle.octets.specs.Cases.{picked, order, equal}
 use Rattle.components.specs.Pieces.{file_of, place_in, left_in}
 use Rattle.components.specs.PiecesLaws.{first_count, same-offset, left-some, file-mono, piece-number, piece-place}
@@ -22,8 +21,8 @@ use Rattle.components.specs.WriteLaws.{placed}
 -- ---- the byte at an offset
 
 -- a file that gives a byte is tracked and there
-open-file : (f : File) (i : ℕ) {x : ℕ} → cond (f.tracked && f.there) (get_elem? f.bytes i) none ≡ some x → (f.tracked && f.there) ≡ true
-open-file f i {x} = picked (λ (q : Option ℕ). q ≡ some x → (f.tracked && f.there) ≡ true) (f.tracked && f.there) _ none (λ t _. t) (λ _ e. absurd (none-ne-some x e))
+open-file : (f : File) (i : ℕ) {x : ℕ} → cond (f.tracked && f.there) (slice_get f.bytes i) None ≡ Some x → (f.tracked && f.there) ≡ true
+open-file f i {x} = picked (λ (q : Option ℕ). q ≡ Some x → (f.tracked && f.there) ≡ true) (f.tracked && f.there) _ None (λ t _. t) (λ _ e. absurd (none-some x e))
 
 -- two runs, one behind the other
 pub write-append : (fs : ℕ) (xs ys : List ℕ) (f : Files) (o : ℕ) → write fs f o (xs ++ ys) ≡ write fs (write fs f o xs) (o + length xs) ys
@@ -34,14 +33,14 @@ write-append fs (x ∷ xs) ys f o =
     rw e (write-append fs xs ys (write_byte fs f o x) (o + 1))
 
 module _ (fs : ℕ) (z : 0 < fs) where
-  byte-here : (f : Files) (o b : ℕ) → byte_at fs (write_byte fs f o b) o ≡ some b
+  byte-here : (f : Files) (o b : ℕ) → byte_at fs (write_byte fs f o b) o ≡ Some b
   unfolding byte_at write_byte
   byte-here f o b =
       simp (eq-eqb (file_of fs o) (file_of fs o) refl)
-      (ap (λ (i : ℕ). get_elem? (written (f (file_of fs o)).bytes (place_in fs o) (b ∷ [])) i) (sym (add-zero (place_in fs o)))
+      (ap (λ (i : ℕ). slice_get (written (f (file_of fs o)).bytes (place_in fs o) (b ∷ [])) i) (sym (add-zero (place_in fs o)))
       ∙ written-here (f (file_of fs o)).bytes (place_in fs o) (b ∷ []) 0 (omega arith))
 
-  byte-below : (f : Files) (o b p : ℕ) {x : ℕ} → p < o → byte_at fs f p ≡ some x → byte_at fs (write_byte fs f o b) p ≡ some x
+  byte-below : (f : Files) (o b p : ℕ) {x : ℕ} → p < o → byte_at fs f p ≡ Some x → byte_at fs (write_byte fs f o b) p ≡ Some x
   unfolding byte_at write_byte
   byte-below f o b p {x} h e =
       order (file_of fs p) (file_of fs o)
@@ -54,13 +53,13 @@ module _ (fs : ℕ) (z : 0 < fs) where
       (rw (open-file (f (file_of fs p)) (place_in fs p) e) at e)))
 
   -- below a run nothing changes
-  pub write-below : (bs : List ℕ) (f : Files) (o p : ℕ) {x : ℕ} → p < o → byte_at fs f p ≡ some x → byte_at fs (write fs f o bs) p ≡ some x
+  pub write-below : (bs : List ℕ) (f : Files) (o p : ℕ) {x : ℕ} → p < o → byte_at fs f p ≡ Some x → byte_at fs (write fs f o bs) p ≡ Some x
   unfolding write
   write-below [] f o p h e = e
   write-below (b ∷ bs) f o p h e = write-below bs (write_byte fs f o b) (o + 1) p (omega arith) (byte-below f o b p h e)
 
   -- in it its bytes stand
-  pub write-in : (bs : List ℕ) (f : Files) (o j : ℕ) → j < length bs → byte_at fs (write fs f o bs) (o + j) ≡ some (get_or bs j 0)
+  pub write-in : (bs : List ℕ) (f : Files) (o j : ℕ) → j < length bs → byte_at fs (write fs f o bs) (o + j) ≡ Some (get_or bs j 0)
   unfolding write
   write-in [] f o j h = absurd (omega arith)
   write-in (b ∷ bs) f o zero h = rw add-zero (write-below bs (write_byte fs f o b) (o + 1) o (omega arith) (byte-here f o b))
@@ -124,7 +123,7 @@ module _ (fs : ℕ) (z : 0 < fs) where
 
   -- a read inside one file
   pub byte-piece : (f : Files) (o j : ℕ) → j < left_in fs o
-      → byte_at fs f (o + j) ≡ cond ((f (file_of fs o)).tracked && (f (file_of fs o)).there) (get_elem? (f (file_of fs o)).bytes (place_in fs o + j)) none
+      → byte_at fs f (o + j) ≡ cond ((f (file_of fs o)).tracked && (f (file_of fs o)).there) (slice_get (f (file_of fs o)).bytes (place_in fs o + j)) None
   unfolding byte_at
   byte-piece f o j h = rw (piece-number fs z o j h, piece-place fs z o j h)
 
@@ -158,8 +157,8 @@ module _ (fs : ℕ) (z : 0 < fs) where
       (p ∙ r, q ∙ s)
 
   -- a byte of a file outside the run, tracked or not
-  byte-outside : (f : Files) (o b p : ℕ) {x : ℕ} → p ≢ o → get_elem? (f (file_of fs p)).bytes (place_in fs p) ≡ some x
-      → get_elem? (write_byte fs f o b (file_of fs p)).bytes (place_in fs p) ≡ some x
+  byte-outside : (f : Files) (o b p : ℕ) {x : ℕ} → p ≢ o → slice_get (f (file_of fs p)).bytes (place_in fs p) ≡ Some x
+      → slice_get (write_byte fs f o b (file_of fs p)).bytes (place_in fs p) ≡ Some x
   unfolding write_byte
   byte-outside f o b p {x} n e =
       equal (file_of fs p) (file_of fs o)
@@ -168,8 +167,8 @@ module _ (fs : ℕ) (z : 0 < fs) where
       (λ r. equal (place_in fs p) (place_in fs o) (λ s. absurd (n (same-offset fs p o q s))) (λ s. omega arith)) e))
       (λ q. rw (byte-other f o b (file_of fs p) q).0 e)
 
-  pub write-outside : (bs : List ℕ) (f : Files) (o p : ℕ) {x : ℕ} → (o ≤ p → o + length bs ≤ p) → get_elem? (f (file_of fs p)).bytes (place_in fs p) ≡ some x
-      → get_elem? (write fs f o bs (file_of fs p)).bytes (place_in fs p) ≡ some x
+  pub write-outside : (bs : List ℕ) (f : Files) (o p : ℕ) {x : ℕ} → (o ≤ p → o + length bs ≤ p) → slice_get (f (file_of fs p)).bytes (place_in fs p) ≡ Some x
+      → slice_get (write fs f o bs (file_of fs p)).bytes (place_in fs p) ≡ Some x
   unfolding write
   write-outside [] f o p h e = e
   write-outside (b ∷ bs) f o p h e =
@@ -196,20 +195,20 @@ write-there fs (b ∷ bs) f o k t = write-there fs bs (write_byte fs f o b) (o +
 
 -- ---- marks: no write makes one
 
-byte-mark : (fs : ℕ) (f : Files) (o b k : ℕ) {e : ℕ} → (write_byte fs f o b k).mark ≡ some e → (f k).mark ≡ some e
+byte-mark : (fs : ℕ) (f : Files) (o b k : ℕ) {e : ℕ} → (write_byte fs f o b k).mark ≡ Some e → (f k).mark ≡ Some e
 unfolding write_byte
 byte-mark fs f o b k {e} =
-    picked (λ (g : File). g.mark ≡ some e → (f k).mark ≡ some e) (eqb k (file_of fs o)) _ _
+    picked (λ (g : File). g.mark ≡ Some e → (f k).mark ≡ Some e) (eqb k (file_of fs o)) _ _
     (λ _.
-    picked (λ (q : Option ℕ). q ≡ some e → (f k).mark ≡ some e) (f k).tracked (f k).mark none
+    picked (λ (q : Option ℕ). q ≡ Some e → (f k).mark ≡ Some e) (f k).tracked (f k).mark None
     (λ _ h. h)
-    (λ _ h. absurd (none-ne-some e h)))
+    (λ _ h. absurd (none-some e h)))
     (λ _.
-    picked (λ (g : File). g.mark ≡ some e → (f k).mark ≡ some e) (not (f (file_of fs o)).tracked && ltb (file_of fs o) k) (untracked (f k)) (f k)
-    (λ _ h. absurd (none-ne-some e h))
+    picked (λ (g : File). g.mark ≡ Some e → (f k).mark ≡ Some e) (not (f (file_of fs o)).tracked && ltb (file_of fs o) k) (untracked (f k)) (f k)
+    (λ _ h. absurd (none-some e h))
     (λ _ h. h))
 
-pub write-mark : (fs : ℕ) (bs : List ℕ) (f : Files) (o k : ℕ) {e : ℕ} → (write fs f o bs k).mark ≡ some e → (f k).mark ≡ some e
+pub write-mark : (fs : ℕ) (bs : List ℕ) (f : Files) (o k : ℕ) {e : ℕ} → (write fs f o bs k).mark ≡ Some e → (f k).mark ≡ Some e
 unfolding write
 write-mark fs [] f o k h = h
 write-mark fs (b ∷ bs) f o k h = byte-mark fs f o b k (write-mark fs bs (write_byte fs f o b) (o + 1) k h)

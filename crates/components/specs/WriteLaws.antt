@@ -1,6 +1,5 @@
 -- A file that is made or found, with its bytes. The laws of writes are in proofs/WriteLaws.antt. Assumes nothing.
-use Rattle.std.specs.Prelude.{true, cond, not, ◌&&◌, eqb}
-use Rattle.std.proofs.Math.Option.{none}
+use Rattle.std.specs.Prelude.{true, cond, not, ◌&&◌, eqb, None}
 use mathlib.Core.List.{List}
 use Prim.Native.Nat.{ℕ}
 use Rattle.std.proofs.Math.Dec.{ltb}
@@ -10,5 +9,5 @@ use Rattle.components.specs.Files.{Files, untracked}
 abbrev pub placed : Files → ℕ → List ℕ → Files
 placed f n l k =
     cond (eqb k n)
-    (record { there = true; tracked = true; mark = cond (f k).tracked (f k).mark none; bytes = l })
+    (record { there = true; tracked = true; mark = cond (f k).tracked (f k).mark None; bytes = l })
     (cond (not (f n).tracked && ltb n k) (untracked (f k)) (f k))

@@ -1,15 +1,12 @@
 -- What a caller sees of a disk by directory and number, and how many files there are, after each change: of the meaning alone. Assumes nothing.
-use Rattle.std.specs.Prelude.{◌≡◌, ◌≢◌, Bool, not, ◌&&◌, List, [], ℕ, ◌+◌, ◌≤◌, ◌<◌}
+use Rattle.std.specs.Prelude.{◌≡◌, ◌≢◌, Bool, not, ◌&&◌, List, [], ℕ, ◌+◌, ◌≤◌, ◌<◌, Option, Some, None}
 use Rattle.std.proofs.Math.Path.{refl, ap}
 use Rattle.std.proofs.Common.{sym, ◌∙◌, arith}
 use Rattle.std.proofs.Math.Bool.{false}
-use Rattle.std.proofs.Math.Option.{none, some}
 use borrow.Author.Tests.{eqb-true, eq-eqb, ne_eqb}
 use Rattle.std.proofs.Math.Dec.{eqb}
 use Rattle.octets.specs.First.{first-same, first-never, first-at, first-hits, first-misses, count_same, count-le, count-more}
 use Rattle.octets.specs.Cases.{equal, and_l, and_r}
-use Rattle.octets.specs.declared.Found.{Found}
-use Rattle.octets.specs.declared.Found.TheVariants.{At, Nothing}
 use Rattle.disk.specs.Meaning.{Slot, Disk, free, slot_with, bytes_in, file_in, file_count, with_slot, emptied}
 
 -- ---- a slot changed
@@ -21,19 +18,19 @@ module _ (m : Disk) (i : ℕ) (r : Slot) where
   slot_kept : (j : ℕ) → j ≢ i → (with_slot m i r).slot j ≡ m.slot j
   slot_kept j d = rw (ne_eqb j i d)
 
-  bytes-kept : (f : Found) → (f ≡ At i → ⊥) → bytes_in (with_slot m i r) f ≡ bytes_in m f
-  bytes-kept (At j) d = ap (λ (x : Slot). some x.bytes) (slot_kept j (λ e. d (ap At e)))
-  bytes-kept Nothing d = refl
+  bytes-kept : (f : Option ℕ) → (f ≡ Some i → ⊥) → bytes_in (with_slot m i r) f ≡ bytes_in m f
+  bytes-kept (Some j) d = ap (λ (x : Slot). Some x.bytes) (slot_kept j (λ e. d (ap Some e)))
+  bytes-kept None d = refl
 
 -- slot i has file n of directory d
 abbrev pub has : Disk → ℕ → ℕ → ℕ → Bool
 has m d n i = eqb (m.slot i).owner (d + 1) && eqb (m.slot i).number n
 
 module _ (m : Disk) where
-  pub with-low : (d n i : ℕ) → slot_with m d n ≡ At i → i < m.slots
+  pub with-low : (d n i : ℕ) → slot_with m d n ≡ Some i → i < m.slots
   with-low d n i e = omega (arith, (first-hits (has m d n) m.slots 0 i e).high)
 
-  pub with-is : (d n i : ℕ) → slot_with m d n ≡ At i → ((m.slot i).owner ≡ d + 1) × ((m.slot i).number ≡ n)
+  pub with-is : (d n i : ℕ) → slot_with m d n ≡ Some i → ((m.slot i).owner ≡ d + 1) × ((m.slot i).number ≡ n)
   with-is d n i e =
       let h = (first-hits (has m d n) m.slots 0 i e).holds in
       (eqb-true _ _ (and_l _ _ h), eqb-true _ _ (and_r (eqb (m.slot i).owner (d + 1)) _ h))
@@ -55,12 +52,12 @@ module _ (m : Disk) (i : ℕ) (bs : List ℕ) where
       (λ (e : j ≡ i). rw (e, eq-eqb i i refl))
       (λ (q : j ≢ i). rw (ne_eqb j i q)))
 
-  pub file-written : (d n : ℕ) → slot_with m d n ≡ At i → file_in (with_slot m i (with_bytes (m.slot i) bs)) d n ≡ some bs
+  pub file-written : (d n : ℕ) → slot_with m d n ≡ Some i → file_in (with_slot m i (with_bytes (m.slot i) bs)) d n ≡ Some bs
   unfolding file_in
   file-written d n e =
-      ap (bytes_in (with_slot m i (with_bytes (m.slot i) bs))) (same-slots d n ∙ e) ∙ ap (λ (x : Slot). some x.bytes) (slot-new m i (with_bytes (m.slot i) bs))
+      ap (bytes_in (with_slot m i (with_bytes (m.slot i) bs))) (same-slots d n ∙ e) ∙ ap (λ (x : Slot). Some x.bytes) (slot-new m i (with_bytes (m.slot i) bs))
 
-  pub file-written-other : (d n d' n' : ℕ) → slot_with m d n ≡ At i → (d' ≡ d → n' ≡ n → ⊥) → file_in (with_slot m i (with_bytes (m.slot i) bs)) d' n' ≡ file_in m d' n'
+  pub file-written-other : (d n d' n' : ℕ) → slot_with m d n ≡ Some i → (d' ≡ d → n' ≡ n → ⊥) → file_in (with_slot m i (with_bytes (m.slot i) bs)) d' n' ≡ file_in m d' n'
   unfolding file_in
   file-written-other d n d' n' e other =
       ap (bytes_in (with_slot m i (with_bytes (m.slot i) bs))) (same-slots d' n')
@@ -76,7 +73,7 @@ abbrev pub new_file : ℕ → ℕ → Slot
 new_file d n = record { owner = d + 1; number = n; bytes = [] }
 
 module _ (m : Disk) (i d n : ℕ) where
-  pub file-made : slot_with m d n ≡ Nothing → i < m.slots → file_in (with_slot m i (new_file d n)) d n ≡ some []
+  pub file-made : slot_with m d n ≡ None → i < m.slots → file_in (with_slot m i (new_file d n)) d n ≡ Some []
   unfolding file_in
   file-made missing low =
       ap (bytes_in (with_slot m i (new_file d n)))
@@ -88,7 +85,7 @@ module _ (m : Disk) (i d n : ℕ) where
         before = λ j a b.
             rw (ne_eqb j i (λ e. omega arith)) (first-misses (has m d n) m.slots 0 missing j (omega arith) (omega arith));
       }))
-      ∙ ap (λ (x : Slot). some x.bytes) (slot-new m i (new_file d n))
+      ∙ ap (λ (x : Slot). Some x.bytes) (slot-new m i (new_file d n))
 
   pub file-made-other : (d' n' : ℕ) → (m.slot i).owner ≡ 0 → (d' ≡ d → n' ≡ n → ⊥) → file_in (with_slot m i (new_file d n)) d' n' ≡ file_in m d' n'
   unfolding file_in
@@ -119,7 +116,7 @@ module _ (m : Disk) (d : ℕ) where
   emptied-other : (i : ℕ) → (m.slot i).owner ≢ d + 1 → (emptied m d).slot i ≡ m.slot i
   emptied-other i h = rw (ne_eqb (m.slot i).owner (d + 1) h)
 
-  pub file-emptied : (n : ℕ) → file_in (emptied m d) d n ≡ none
+  pub file-emptied : (n : ℕ) → file_in (emptied m d) d n ≡ None
   unfolding file_in
   file-emptied n =
       ap (bytes_in (emptied m d))
@@ -141,11 +138,11 @@ module _ (m : Disk) (d : ℕ) where
           (λ (e : (m.slot j).owner ≡ d + 1). rw (emptied-owned j e, ne_eqb 0 (d' + 1) (λ q. omega arith)) (sym (not-owner m d' n j (λ q. other (omega arith)))))
           (λ (e : (m.slot j).owner ≢ d + 1). rw (emptied-other j e)))
 
-      kept : (f : Found) → slot_with m d' n ≡ f → bytes_in (emptied m d) f ≡ bytes_in m f
-      kept (At j) e =
+      kept : (f : Option ℕ) → slot_with m d' n ≡ f → bytes_in (emptied m d) f ≡ bytes_in m f
+      kept (Some j) e =
           let found = with-is m d' n j e in
-          ap (λ (x : Slot). some x.bytes) (emptied-other j (λ q. other (omega arith)))
-      kept Nothing e = refl
+          ap (λ (x : Slot). Some x.bytes) (emptied-other j (λ q. other (omega arith)))
+      kept None e = refl
 
 -- ---- how many there are
 

@@ -1,12 +1,9 @@
 -- What the bytes of a sound disk mean: its directories, its files by slot, each with directory, number and bytes, and the metadata files left and right.
 -- Assumes nothing.
-use Rattle.std.specs.Prelude.{cond, not, ◌&&◌, List, [], ℕ, ◌+◌, eqb}
-use Rattle.std.proofs.Math.Option.{Option, none, some}
+use Rattle.std.specs.Prelude.{cond, not, ◌&&◌, List, [], ℕ, ◌+◌, eqb, Option, Some, None}
 use Rattle.octets.specs.First.{first, count}
 use Rattle.octets.specs.Words.{table}
 use Rattle.octets.specs.Compare.{same_bytes}
-use Rattle.octets.specs.declared.Found.{Found}
-use Rattle.octets.specs.declared.Found.TheVariants.{At, Nothing}
 use Rattle.layout.specs.Names.{names}
 use Rattle.layout.specs.Disk.{directories, slots, owner, number}
 use Rattle.metadata.specs.declared.choice.Side.{Side}
@@ -46,27 +43,27 @@ disk_of s =
 -- ---- what a disk has
 
 -- the place of a directory
-abbrev pub directory_named : Disk → List ℕ → Found
+abbrev pub directory_named : Disk → List ℕ → Option ℕ
 directory_named d tape = first (λ i. same_bytes (d.directory i) tape) 8 0
 
 -- the slot of a file by directory place and number
-abbrev pub slot_with : Disk → ℕ → ℕ → Found
+abbrev pub slot_with : Disk → ℕ → ℕ → Option ℕ
 slot_with d place n = first (λ i. eqb (d.slot i).owner (place + 1) && eqb (d.slot i).number n) d.slots 0
 
-abbrev pub bytes_in : Disk → Found → Option (List ℕ)
-bytes_in d (At i) = some (d.slot i).bytes
-bytes_in d Nothing = none
+abbrev pub bytes_in : Disk → Option ℕ → Option (List ℕ)
+bytes_in d (Some i) = Some (d.slot i).bytes
+bytes_in d None = None
 
 -- the file of a directory place and a number
 unfoldable pub file_in : Disk → ℕ → ℕ → Option (List ℕ)
 file_in d place n = bytes_in d (slot_with d place n)
 
-abbrev pub in_directory : Disk → ℕ → Found → Found
-in_directory d n (At place) = slot_with d place n
-in_directory d n Nothing = Nothing
+abbrev pub in_directory : Disk → ℕ → Option ℕ → Option ℕ
+in_directory d n (Some place) = slot_with d place n
+in_directory d n None = None
 
 -- the same by the tape's name
-abbrev pub slot_named : Disk → List ℕ → ℕ → Found
+abbrev pub slot_named : Disk → List ℕ → ℕ → Option ℕ
 slot_named d tape n = in_directory d n (directory_named d tape)
 
 -- how many files there are

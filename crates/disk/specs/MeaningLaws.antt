@@ -1,10 +1,9 @@
 -- What each step does to the meaning of a sound disk, and that the searches say the same of the bytes and of the meaning. Assumes nothing.
-use Rattle.std.specs.Prelude.{◌≡◌, ◌≢◌, true, false, cond, ◌&&◌, ℕ, ◌+◌, ◌*◌, ◌≤◌, ◌<◌, ◌^◌, max, drop}
+use Rattle.std.specs.Prelude.{◌≡◌, ◌≢◌, true, false, cond, ◌&&◌, ℕ, ◌+◌, ◌*◌, ◌≤◌, ◌<◌, ◌^◌, max, drop, Option, Some, None}
 use Rattle.std.proofs.Math.Path.{refl, ap, fun_ext}
 use Rattle.std.proofs.Common.{sym, ◌∙◌, arith}
 use Rattle.std.proofs.Math.Bool.{not}
 use mathlib.Core.List.{List, []}
-use Rattle.std.proofs.Math.Option.{none, some}
 use Rattle.std.proofs.Math.Dec.{eqb}
 use Rattle.std.proofs.Math.ListN.{length, take}
 use Rattle.octets.specs.Bytes.{put, length_part}
@@ -13,8 +12,6 @@ use Rattle.octets.specs.Words.{table, table-in, table-out, table-blank, table_sa
 use Rattle.octets.specs.First.{first, first-same, count, count_same}
 use Rattle.octets.specs.Sweep.{sweep-keeps, sweep-row, Rowwise}
 use Rattle.octets.specs.Cases.{picked, decide, order}
-use Rattle.octets.specs.declared.Found.{Found}
-use Rattle.octets.specs.declared.Found.TheVariants.{At, Nothing}
 use Rattle.components.specs.FileBytes.{written}
 use Rattle.layout.specs.Names.{name, names, find_name, put_name}
 use Rattle.layout.specs.NamesLaws.{find-names, fit-only, names-only, names-put_name, only-put_name}
@@ -356,9 +353,9 @@ module _ (s : List ℕ) where
   unfolding find_file
   find-named tape n = ap (within s n) (find-directory tape) ∙ by (directory_named (disk_of s) tape)
     where
-      by : (f : Found) → within s n f ≡ in_directory (disk_of s) n f
-      by (At place) = find-slot place n
-      by Nothing = refl
+      by : (f : Option ℕ) → within s n f ≡ in_directory (disk_of s) n f
+      by (Some place) = find-slot place n
+      by None = refl
 
   pub files-count : files s ≡ file_count (disk_of s)
   unfolding files
@@ -366,13 +363,13 @@ module _ (s : List ℕ) where
       count_same _ _ (slots s) 0 (λ i l h. rw (owner-in i (omega arith)))
       ∙ ap (λ (k : ℕ). count (λ i. not (eqb ((disk_of s).slot i).owner 0)) k 0) (sym slots-in)
 
-  pub file-found : (d n i : ℕ) → find_in s d n ≡ At i → file_in (disk_of s) d n ≡ some (file_bytes s i)
+  pub file-found : (d n i : ℕ) → find_in s d n ≡ Some i → file_in (disk_of s) d n ≡ Some (file_bytes s i)
   unfolding file_in
   file-found d n i e =
       ap (bytes_in (disk_of s)) (sym (find-slot d n) ∙ e)
-      ∙ ap (λ (l : List ℕ). some l) (bytes-in i (find-low s d n i e))
+      ∙ ap (λ (l : List ℕ). Some l) (bytes-in i (find-low s d n i e))
 
-  pub file-missing : (d n : ℕ) → find_in s d n ≡ Nothing → file_in (disk_of s) d n ≡ none
+  pub file-missing : (d n : ℕ) → find_in s d n ≡ None → file_in (disk_of s) d n ≡ None
   unfolding file_in
   file-missing d n e = ap (bytes_in (disk_of s)) (sym (find-slot d n) ∙ e)
 

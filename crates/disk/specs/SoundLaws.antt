@@ -1,5 +1,5 @@
 -- The steps keep a disk sound, and its bytes bytes. What each step leaves alone is StepLaws'. Assumes nothing.
-use Rattle.std.specs.Prelude.{◌≡◌, ◌≢◌, ℕ, ◌+◌, ◌*◌, ◌≤◌, ◌<◌, ◌^◌, eqb}
+use Rattle.std.specs.Prelude.{◌≡◌, ◌≢◌, ℕ, ◌+◌, ◌*◌, ◌≤◌, ◌<◌, ◌^◌, eqb, Option, Some, None}
 use Rattle.std.proofs.Math.Path.{refl}
 use Rattle.std.proofs.Common.{◌∙◌, arith}
 use mathlib.Core.List.{List, []}
@@ -9,8 +9,6 @@ use Rattle.octets.specs.Number.{num_at, Bytes}
 use Rattle.octets.specs.Only.{OnlyIn, num_at-only}
 use Rattle.octets.specs.Sweep.{sweep-keeps}
 use Rattle.octets.specs.Cases.{picked, equal}
-use Rattle.octets.specs.declared.Found.{Found}
-use Rattle.octets.specs.declared.Found.TheVariants.{At, Nothing}
 use Rattle.layout.specs.Names.{NamesFit, find_name, put_name}
 use Rattle.layout.specs.NamesLaws.{fit-only, fit-put_name, only-put_name, bytes-put_name}
 use Rattle.layout.specs.Disk.{directories, entry_at, data_at, slots, left_len, right_len, owner, len, HeadSound, Sound}
@@ -108,9 +106,9 @@ pub slots-add_directory : (s wanted : List ℕ) → length wanted ≤ 24 → slo
 unfolding add_directory
 slots-add_directory s wanted small = by (find_name s directories [])
   where
-    by : (f : Found) → slots (add_at s wanted f).area ≡ slots s
-    by (At d) = slots-only _ _ s _ (only-put_name s directories d wanted small) (omega arith)
-    by Nothing = refl
+    by : (f : Option ℕ) → slots (add_at s wanted f).area ≡ slots s
+    by (Some d) = slots-only _ _ s _ (only-put_name s directories d wanted small) (omega arith)
+    by None = refl
 
 -- ---- the steps keep a disk sound
 
@@ -181,21 +179,21 @@ module _ (s : List ℕ) (sound : Sound s) where
   unfolding add_directory
   sound-add_directory wanted small = by (find_name s directories []) refl
     where
-      by : (f : Found) → find_name s directories [] ≡ f → Sound (add_at s wanted f).area
-      by (At d) e = sound-put_name d wanted (directory-low s [] d e) small
-      by Nothing e = sound
+      by : (f : Option ℕ) → find_name s directories [] ≡ f → Sound (add_at s wanted f).area
+      by (Some d) e = sound-put_name d wanted (directory-low s [] d e) small
+      by None e = sound
 
   pub sound-make_file : (d n : ℕ) → d < 8 → n < 256 ^ 8 → Sound (make_file s d n).area
   unfolding make_file
   sound-make_file d n low fits = by (find_in s d n)
     where
-      new : (f : Found) → free_slot s ≡ f → Sound (make_new s d n f).area
-      new (At i) e = sound-put_entry i _ (free-low s i e) (omega arith) (omega arith) fits
-      new Nothing e = sound
+      new : (f : Option ℕ) → free_slot s ≡ f → Sound (make_new s d n f).area
+      new (Some i) e = sound-put_entry i _ (free-low s i e) (omega arith) (omega arith) fits
+      new None e = sound
 
-      by : (f : Found) → Sound (make_unless s d n f).area
-      by (At i) = sound
-      by Nothing = new (free_slot s) refl
+      by : (f : Option ℕ) → Sound (make_unless s d n f).area
+      by (Some i) = sound
+      by None = new (free_slot s) refl
 
   pub sound-empty_slot : (d i : ℕ) → i < slots s → Sound (empty_slot d i s)
   unfolding empty_slot
@@ -223,21 +221,21 @@ module _ (s : List ℕ) (sound : Sound s) where
   unfolding add_directory
   bytes-add_directory wanted small p q = by (find_name s directories []) refl
     where
-      by : (f : Found) → find_name s directories [] ≡ f → Bytes (add_at s wanted f).area
-      by (At d) e = bytes-put_name s directories d wanted p q sound.names.room (directory-low s [] d e) small
-      by Nothing e = p
+      by : (f : Option ℕ) → find_name s directories [] ≡ f → Bytes (add_at s wanted f).area
+      by (Some d) e = bytes-put_name s directories d wanted p q sound.names.room (directory-low s [] d e) small
+      by None e = p
 
   pub bytes-make_file : (d n : ℕ) → Bytes s → Bytes (make_file s d n).area
   unfolding make_file
   bytes-make_file d n p = by (find_in s d n)
     where
-      new : (f : Found) → free_slot s ≡ f → Bytes (make_new s d n f).area
-      new (At i) e = bytes-put_entry s i _ (entry-room s sound i (free-low s i e)) p
-      new Nothing e = p
+      new : (f : Option ℕ) → free_slot s ≡ f → Bytes (make_new s d n f).area
+      new (Some i) e = bytes-put_entry s i _ (entry-room s sound i (free-low s i e)) p
+      new None e = p
 
-      by : (f : Found) → Bytes (make_unless s d n f).area
-      by (At i) = p
-      by Nothing = new (free_slot s) refl
+      by : (f : Option ℕ) → Bytes (make_unless s d n f).area
+      by (Some i) = p
+      by None = new (free_slot s) refl
 
 pub sound-formatted : (s : List ℕ) (n : ℕ) → 1 ≤ n → n ≤ 64 → data_at n ≤ length s → Sound (formatted s n)
 sound-formatted s n some few room =

@@ -1,5 +1,5 @@
 -- What each step of the disk writes and what it leaves alone, that bytes stay bytes, and what the searches find. Soundness is in SoundLaws. Assumes nothing.
-use Rattle.std.specs.Prelude.{◌≡◌, ◌≢◌, eqb, drop}
+use Rattle.std.specs.Prelude.{◌≡◌, ◌≢◌, eqb, drop, Option, Some, None}
 use Rattle.std.proofs.Math.Path.{refl, ap}
 use Rattle.std.proofs.Common.{◌∙◌, arith}
 use mathlib.Core.List.{List, [], ◌∷◌}
@@ -14,8 +14,6 @@ use Rattle.octets.specs.Words.{length-put_words, only-put_words, bytes-put_words
 use Rattle.octets.specs.First.{first-hits}
 use Rattle.octets.specs.Sweep.{sweep-keeps}
 use Rattle.octets.specs.Cases.{picked, and_l, and_r}
-use Rattle.octets.specs.declared.Found.{Found}
-use Rattle.octets.specs.declared.Found.TheVariants.{At, Nothing}
 use Rattle.layout.specs.Names.{find_name}
 use Rattle.layout.specs.NamesLaws.{only-put_name, name-low}
 use Rattle.layout.specs.Disk.{mark, directories, entry_at, data_at, slots, owner, number, len}
@@ -244,42 +242,42 @@ module _ (s : List ℕ) where
   unfolding add_directory
   length-add_directory wanted small = by (find_name s directories [])
     where
-      by : (f : Found) → length (add_at s wanted f).area ≡ length s
-      by (At d) = (only-put_name s directories d wanted small).long
-      by Nothing = refl
+      by : (f : Option ℕ) → length (add_at s wanted f).area ≡ length s
+      by (Some d) = (only-put_name s directories d wanted small).long
+      by None = refl
 
   pub length-make_file : (d n : ℕ) → length (make_file s d n).area ≡ length s
   unfolding make_file
   length-make_file d n = by (find_in s d n)
     where
-      new : (f : Found) → length (make_new s d n f).area ≡ length s
-      new (At i) = length-put_entry s i _
-      new Nothing = refl
+      new : (f : Option ℕ) → length (make_new s d n f).area ≡ length s
+      new (Some i) = length-put_entry s i _
+      new None = refl
 
-      by : (f : Found) → length (make_unless s d n f).area ≡ length s
-      by (At i) = refl
-      by Nothing = new (free_slot s)
+      by : (f : Option ℕ) → length (make_unless s d n f).area ≡ length s
+      by (Some i) = refl
+      by None = new (free_slot s)
 
 -- ---- what the searches find
 
 module _ (s : List ℕ) where
-  pub directory-low : (w : List ℕ) (d : ℕ) → find_name s directories w ≡ At d → d < 8
+  pub directory-low : (w : List ℕ) (d : ℕ) → find_name s directories w ≡ Some d → d < 8
   directory-low w d e = name-low s directories w d e
 
-  pub find-low : (d n i : ℕ) → find_in s d n ≡ At i → i < slots s
+  pub find-low : (d n i : ℕ) → find_in s d n ≡ Some i → i < slots s
   unfolding find_in
   find-low d n i e = omega (arith, (first-hits (is_file s d n) (slots s) 0 i e).high)
 
-  pub found-is : (d n i : ℕ) → find_in s d n ≡ At i → (owner s i ≡ d + 1) × (number s i ≡ n)
+  pub found-is : (d n i : ℕ) → find_in s d n ≡ Some i → (owner s i ≡ d + 1) × (number s i ≡ n)
   unfolding find_in
   found-is d n i e =
       let h = (first-hits (is_file s d n) (slots s) 0 i e).holds in
       (eqb-true _ _ (and_l _ _ h), eqb-true _ _ (and_r (eqb (owner s i) (d + 1)) _ h))
 
-  pub free-low : (i : ℕ) → free_slot s ≡ At i → i < slots s
+  pub free-low : (i : ℕ) → free_slot s ≡ Some i → i < slots s
   unfolding free_slot
   free-low i e = omega (arith, (first-hits (is_free s) (slots s) 0 i e).high)
 
-  pub free-is : (i : ℕ) → free_slot s ≡ At i → owner s i ≡ 0
+  pub free-is : (i : ℕ) → free_slot s ≡ Some i → owner s i ≡ 0
   unfolding free_slot
   free-is i e = eqb-true _ _ (first-hits (is_free s) (slots s) 0 i e).holds

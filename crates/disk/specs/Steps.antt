@@ -1,12 +1,10 @@
 -- What each function of the disk answers, and what the area then holds. Assumes nothing.
-use Rattle.std.specs.Prelude.{Bool, cond, not, ◌&&◌, List, [], ◌∷◌, ℕ, ◌+◌, ◌-◌, max, eqb, length, take, drop, replicate}
+use Rattle.std.specs.Prelude.{Bool, cond, not, ◌&&◌, List, [], ◌∷◌, ℕ, ◌+◌, ◌-◌, max, eqb, length, take, drop, replicate, Option, Some, None}
 use Rattle.octets.specs.Bytes.{put}
 use Rattle.octets.specs.Number.{num_at, put_num}
 use Rattle.octets.specs.First.{first, count}
 use Rattle.octets.specs.Words.{put_words}
 use Rattle.octets.specs.Sweep.{sweep}
-use Rattle.octets.specs.declared.Found.{Found}
-use Rattle.octets.specs.declared.Found.TheVariants.{At, Nothing}
 use Rattle.layout.specs.Names.{find_name, put_name}
 use Rattle.layout.specs.Disk.{mark, directories, left_at, right_at, entry_at, data_at, slots, owner, number, len}
 use Rattle.metadata.specs.declared.choice.Side.{Side}
@@ -15,10 +13,10 @@ use Rattle.disk.specs.declared.files.Entry.{Entry}
 
 -- an answer, and the area then
 pub record After : Type 0 where
-  pub answer : Found
+  pub answer : Option ℕ
   pub area : List ℕ
 
-abbrev pub after : Found → List ℕ → After
+abbrev pub after : Option ℕ → List ℕ → After
 after a s = record { answer = a; area = s }
 
 -- ---- format: everything before the slots is zeros, but for the mark and the slot count
@@ -50,18 +48,18 @@ is_not s d n i = not (is_file s d n i)
 abbrev pub is_free : List ℕ → ℕ → Bool
 is_free s i = eqb (owner s i) 0
 
-unfoldable pub find_in : List ℕ → ℕ → ℕ → Found
+unfoldable pub find_in : List ℕ → ℕ → ℕ → Option ℕ
 find_in s d n = first (is_file s d n) (slots s) 0
 
-abbrev pub within : List ℕ → ℕ → Found → Found
-within s n (At d) = find_in s d n
-within s n Nothing = Nothing
+abbrev pub within : List ℕ → ℕ → Option ℕ → Option ℕ
+within s n (Some d) = find_in s d n
+within s n None = None
 
 -- "A file is found by tape and number; the search ends at the first hit"
-unfoldable pub find_file : List ℕ → List ℕ → ℕ → Found
+unfoldable pub find_file : List ℕ → List ℕ → ℕ → Option ℕ
 find_file s tape n = within s n (find_name s directories tape)
 
-unfoldable pub free_slot : List ℕ → Found
+unfoldable pub free_slot : List ℕ → Option ℕ
 free_slot s = first (is_free s) (slots s) 0
 
 -- how many files there are
@@ -70,9 +68,9 @@ files s = count (λ i. not (is_free s i)) (slots s) 0
 
 -- ---- directories
 
-abbrev pub add_at : List ℕ → List ℕ → Found → After
-add_at s wanted (At d) = after (At d) (put_name s directories d wanted)
-add_at s wanted Nothing = after Nothing s
+abbrev pub add_at : List ℕ → List ℕ → Option ℕ → After
+add_at s wanted (Some d) = after (Some d) (put_name s directories d wanted)
+add_at s wanted None = after None s
 
 unfoldable pub add_directory : List ℕ → List ℕ → After
 add_directory s wanted = add_at s wanted (find_name s directories [])
@@ -85,13 +83,13 @@ empty_directory s d = sweep (empty_slot d) (slots s) 0 s
 
 -- ---- files
 
-abbrev pub make_new : List ℕ → ℕ → ℕ → Found → After
-make_new s d n (At i) = after (At i) (put_entry s i (record { owner = d + 1; number = n; len = 0 }))
-make_new s d n Nothing = after Nothing s
+abbrev pub make_new : List ℕ → ℕ → ℕ → Option ℕ → After
+make_new s d n (Some i) = after (Some i) (put_entry s i (record { owner = d + 1; number = n; len = 0 }))
+make_new s d n None = after None s
 
-abbrev pub make_unless : List ℕ → ℕ → ℕ → Found → After
-make_unless s d n (At i) = after (At i) s
-make_unless s d n Nothing = make_new s d n (free_slot s)
+abbrev pub make_unless : List ℕ → ℕ → ℕ → Option ℕ → After
+make_unless s d n (Some i) = after (Some i) s
+make_unless s d n None = make_new s d n (free_slot s)
 
 -- a file met again keeps its bytes; a new one has none
 unfoldable pub make_file : List ℕ → ℕ → ℕ → After

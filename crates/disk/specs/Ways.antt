@@ -1,5 +1,5 @@
 -- The ways out of the disk's steps, each as the code takes it. Assumes nothing.
-use Rattle.std.specs.Prelude.{◌≡◌, ◌≢◌, Bool, true, false, ℕ, ◌+◌, ◌≤◌, eqb, replicate}
+use Rattle.std.specs.Prelude.{◌≡◌, ◌≢◌, Bool, true, false, ℕ, ◌+◌, ◌≤◌, eqb, replicate, Some, None}
 use Rattle.std.proofs.Math.Path.{ap}
 use Rattle.std.proofs.Common.{◌∙◌, eq-eqb, ne_eqb}
 use mathlib.Core.List.{List, [], ◌∷◌}
@@ -9,7 +9,6 @@ use Rattle.octets.specs.Number.{put_num}
 use Rattle.octets.specs.Words.{put_words-none, put_words-more}
 use Rattle.octets.specs.Cases.{decide}
 use Rattle.octets.specs.Compare.{same_bytes}
-use Rattle.octets.specs.declared.Found.TheVariants.{At, Nothing}
 use Rattle.layout.specs.Names.{name, find_name, put_name}
 use Rattle.layout.specs.Disk.{mark, directories, left_at, right_at, entry_at, owner, number, len, Sound}
 use Rattle.metadata.specs.declared.choice.Side.{Side}
@@ -66,25 +65,25 @@ module _ (s : List ℕ) where
       ∙ ap (λ (p : ℕ). put_num 8 u p e.len) next
 
   module _ (d n : ℕ) where
-    pub make-met : (i : ℕ) → find_in s d n ≡ At i → make_file s d n ≡ after (At i) s
+    pub make-met : (i : ℕ) → find_in s d n ≡ Some i → make_file s d n ≡ after (Some i) s
     unfolding make_file
     make-met i e = rw e
 
-    pub make-full : find_in s d n ≡ Nothing → free_slot s ≡ Nothing → make_file s d n ≡ after Nothing s
+    pub make-full : find_in s d n ≡ None → free_slot s ≡ None → make_file s d n ≡ after None s
     unfolding make_file
     make-full e f = rw (e, f)
 
-    pub make-new : (i : ℕ) → find_in s d n ≡ Nothing → free_slot s ≡ At i
-        → make_file s d n ≡ after (At i) (put_entry s i (record { owner = d + 1; number = n; len = 0 }))
+    pub make-new : (i : ℕ) → find_in s d n ≡ None → free_slot s ≡ Some i
+        → make_file s d n ≡ after (Some i) (put_entry s i (record { owner = d + 1; number = n; len = 0 }))
     unfolding make_file
     make-new i e f = rw (e, f)
 
   module _ (tape : List ℕ) where
-    pub add-full : find_name s directories [] ≡ Nothing → add_directory s tape ≡ after Nothing s
+    pub add-full : find_name s directories [] ≡ None → add_directory s tape ≡ after None s
     unfolding add_directory
     add-full e = rw e
 
-    pub add-new : (d : ℕ) → find_name s directories [] ≡ At d → add_directory s tape ≡ after (At d) (put_name s directories d tape)
+    pub add-new : (d : ℕ) → find_name s directories [] ≡ Some d → add_directory s tape ≡ after (Some d) (put_name s directories d tape)
     unfolding add_directory
     add-new d e = rw e
 

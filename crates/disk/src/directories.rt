@@ -6,7 +6,6 @@ ghost use Rattle.disk.specs.Steps.{after, add_directory, empty_slot, empty_direc
 
 use crate::files::{get_entry, remove_file, slot_count};
 use layout::Disk;
-use octets::Found;
 
 // The name of a directory place; empty where the place is free.
 pub fn directory_name<'a>(disk: &'a [u8], place: usize) -> &'a [u8]
@@ -17,7 +16,7 @@ pub fn directory_name<'a>(disk: &'a [u8], place: usize) -> &'a [u8]
 }
 
 // The first place with this name; of the empty name, the first free place.
-pub fn find_directory(disk: &[u8], name: &[u8]) -> Found
+pub fn find_directory(disk: &[u8], name: &[u8]) -> Option<usize>
     requires { Sound disk.now }
     ensures { result ≡ find_name disk.now directories name.now }
 {
@@ -25,17 +24,17 @@ pub fn find_directory(disk: &[u8], name: &[u8]) -> Found
 }
 
 // A new directory in the first free place; Nothing, and no byte changed, if there is none.
-pub fn add_directory(disk: &mut [u8], name: &[u8]) -> Found
+pub fn add_directory(disk: &mut [u8], name: &[u8]) -> Option<usize>
     requires { Sound disk.old × (length name.now ≤ 24) }
     ensures { add_directory disk.old name.now ≡ after result disk.new }
 {
     let free = layout::find_name(disk, Disk::DIRECTORIES, b"");
     match free {
-        Found::At(place) => {
+        Some(place) => {
             layout::put_name(disk, Disk::DIRECTORIES, place, name);
-            Found::At(place)
+            Some(place)
         }
-        Found::Nothing => Found::Nothing,
+        None => None,
     }
 }
 
@@ -56,9 +55,7 @@ pub fn empty_directory(disk: &mut [u8], place: usize)
     ensures { disk.new ≡ empty_directory disk.old place }
 {
     let count = slot_count(disk);
-    let mut i = 0;
-    while i < count {
+    for i in 0..count {
         empty_slot(disk, place, i);
-        i += 1;
     }
 }

@@ -5,7 +5,6 @@ ghost use Rattle.disk.specs.Steps.{after, entry_of, put_entry, removed, make_fil
 
 use crate::search::{find_in, free_slot};
 use layout::Disk;
-use octets::Found;
 
 // A slot's row.
 #[derive(Clone, Copy)]
@@ -67,17 +66,17 @@ pub fn remove_file(disk: &mut [u8], slot: usize)
 
 // The file of a directory and a number: met again with its bytes, or made with none in the first
 // free slot; Nothing, and no byte changed, if there is no such slot.
-pub fn make_file(disk: &mut [u8], place: usize, number: u64) -> Found
+pub fn make_file(disk: &mut [u8], place: usize, number: u64) -> Option<usize>
     requires { Sound disk.old × (place < 8) }
     ensures { make_file disk.old place number ≡ after result disk.new }
 {
     let met = find_in(disk, place, number);
-    let Found::Nothing = met else {
+    let None = met else {
         return met;
     };
     let free = free_slot(disk);
-    let Found::At(slot) = free else {
-        return Found::Nothing;
+    let Some(slot) = free else {
+        return None;
     };
     put_entry(
         disk,
@@ -88,7 +87,7 @@ pub fn make_file(disk: &mut [u8], place: usize, number: u64) -> Found
             len: 0,
         },
     );
-    Found::At(slot)
+    Some(slot)
 }
 
 // The bytes of a slot's file, as a part of the area.
@@ -113,6 +112,6 @@ pub fn write_at(disk: &mut [u8], slot: usize, at: usize, src: &[u8])
     let old = octets::u64_at(disk, row + 16) as usize;
     octets::fill_zero(disk, data + old, data + at);
     octets::copy_in(disk, data + at, src);
-    let end = octets::larger(old, at + src.len());
+    let end = old.max(at + src.len());
     octets::put_u64(disk, row + 16, end as u64);
 }

@@ -5,7 +5,6 @@ ghost use Rattle.layout.specs.Disk.{Sound, slots};
 ghost use Rattle.disk.specs.Steps.{is_file, is_not, is_free, find_in, find_file, free_slot, files};
 
 use layout::Disk;
-use octets::Found;
 
 // Whether a slot has the file of a directory and a number.
 fn is_file(disk: &[u8], slot: usize, place: usize, number: u64) -> bool
@@ -25,12 +24,10 @@ fn each_lacks(disk: &[u8], from: usize, to: usize, place: usize, number: u64) ->
     requires { Sound disk.now × ((to ≤ slots disk.now) × (place < 8)) }
     ensures { result ≡ all (is_not disk.now place number) (to - from) from }
 {
-    let mut i = from;
-    while i < to {
+    for i in from..to {
         if is_file(disk, i, place, number) {
             return false;
         }
-        i += 1;
     }
     true
 }
@@ -61,61 +58,47 @@ fn is_free(disk: &[u8], slot: usize) -> bool
 }
 
 // The slot of the file that a tape's name and a number say: the first in the directory of that name.
-pub fn find_file(disk: &[u8], name: &[u8], number: u64) -> Found
+pub fn find_file(disk: &[u8], name: &[u8], number: u64) -> Option<usize>
     requires { Sound disk.now }
     ensures { result ≡ find_file disk.now name.now number }
 {
     let count = octets::u64_at(disk, Disk::SLOT_COUNT) as usize;
-    let mut place = 0;
-    let found = 'search: loop {
-        if Disk::MOST_DIRECTORIES <= place {
-            break 'search Found::Nothing;
-        }
-        if layout::has_name(disk, Disk::DIRECTORIES, place, name) {
-            let mut slot = search_from(disk, place, number);
-            while slot < count {
-                if is_file(disk, slot, place, number) {
-                    break 'search Found::At(slot);
+    'search: {
+        for place in 0..Disk::MOST_DIRECTORIES {
+            if layout::has_name(disk, Disk::DIRECTORIES, place, name) {
+                for slot in search_from(disk, place, number)..count {
+                    if is_file(disk, slot, place, number) {
+                        break 'search Some(slot);
+                    }
                 }
-                slot += 1;
+                break 'search None;
             }
-            break 'search Found::Nothing;
         }
-        place += 1;
-    };
-    found
+        None
+    }
 }
 
 // The same in a directory whose place is known.
-pub fn find_in(disk: &[u8], place: usize, number: u64) -> Found
+pub fn find_in(disk: &[u8], place: usize, number: u64) -> Option<usize>
     requires { Sound disk.now × (place < 8) }
     ensures { result ≡ find_in disk.now place number }
 {
     let count = octets::u64_at(disk, Disk::SLOT_COUNT) as usize;
-    let mut slot = search_from(disk, place, number);
-    while slot < count {
+    for slot in search_from(disk, place, number)..count {
         if is_file(disk, slot, place, number) {
-            return Found::At(slot);
+            return Some(slot);
         }
-        slot += 1;
     }
-    Found::Nothing
+    None
 }
 
 // The first slot that has no file.
-pub fn free_slot(disk: &[u8]) -> Found
+pub fn free_slot(disk: &[u8]) -> Option<usize>
     requires { Sound disk.now }
     ensures { result ≡ free_slot disk.now }
 {
     let count = octets::u64_at(disk, Disk::SLOT_COUNT) as usize;
-    let mut slot = 0;
-    while slot < count {
-        if is_free(disk, slot) {
-            return Found::At(slot);
-        }
-        slot += 1;
-    }
-    Found::Nothing
+    octets::first(0, count, |slot| is_free(disk, slot))
 }
 
 // How many files there are.
@@ -124,15 +107,5 @@ pub fn count_files(disk: &[u8]) -> usize
     ensures { result ≡ files disk.now }
 {
     let count = octets::u64_at(disk, Disk::SLOT_COUNT) as usize;
-    let mut found = 0;
-    let mut slot = 0;
-    while slot < count {
-        if is_free(disk, slot) {
-            slot += 1;
-        } else {
-            found += 1;
-            slot += 1;
-        }
-    }
-    found
+    octets::count(0, count, |slot| !is_free(disk, slot))
 }

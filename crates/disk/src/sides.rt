@@ -44,6 +44,6 @@ pub fn write_side(disk: &mut [u8], side: Side, src: &[u8])
     let len_at = side_len_at(side);
     let old = octets::u64_at(disk, len_at) as usize;
     octets::copy_in(disk, side_at(side), src);
-    let end = octets::larger(old, src.len());
+    let end = old.max(src.len());
     octets::put_u64(disk, len_at, end as u64);
 }

@@ -1,6 +1,6 @@
 -- A commit of areas that are in order is served: what it publishes makes a list that may be stored, which has every published tape just once, and the tapes
 -- that it touched have their directories. What is left to refuse is the last epoch, and for an append that no slot is free. Assumes nothing.
-use Rattle.std.specs.Prelude.{◌≡◌, ◌≢◌, Bool}
+use Rattle.std.specs.Prelude.{◌≡◌, ◌≢◌, Bool, Ok}
 use Rattle.std.proofs.Math.Path.{refl, sym, ap}
 use Rattle.std.proofs.Common.{◌∙◌, true≢false}
 use Rattle.std.proofs.Math.Bool.{true, false}
@@ -12,7 +12,6 @@ use Rattle.std.proofs.Math.ListN.{length}
 use Rattle.octets.specs.Cases.{decide}
 use Rattle.octets.specs.First.{count, count-le, count_same}
 use Rattle.answers.specs.Outcome.{Outcome}
-use Rattle.answers.specs.declared.Answer.TheVariants.{Done}
 use Rattle.metadata.specs.Struct.{list_of, storable}
 use Rattle.layout.specs.Names.{name}
 use Rattle.layout.specs.Session.{names_at}
@@ -54,21 +53,21 @@ module _ (d s : List ℕ) (o : Orderly d s) (running : is_open_at s 16 ≡ true)
     list-storable =
         next-storable s cut (λ p low listed. record { rule = proper.rule p low (published-named d s o running cut p low listed); inside = bounded p low listed })
 
-    may-commit : may_commit d s cut (the_list s cut) ≡ Done ((head_of s).epoch + 1)
+    may-commit : may_commit d s cut (the_list s cut) ≡ Ok ((head_of s).epoch + 1)
     unfolding may_commit
     may-commit = rw (list-whole, list-storable, ne_eqb (head_of s).epoch 0xffff_ffff_ffff_ffff more, all_there_lem d s o)
 
 -- ---- the calls
 
 module _ (d s : List ℕ) (k : ℕ) (o : Orderly d s) (proper : Proper d s) (more : (head_of s).epoch ≢ 0xffff_ffff_ffff_ffff) where
-  pub commit-append-serves : writes s k ≡ true → no_room d s 8 0 ≡ false → Bounded s false → (commit_call d s k).answer ≡ Done ((head_of s).epoch + 1)
+  pub commit-append-serves : writes s k ≡ true → no_room d s 8 0 ≡ false → Bounded s false → (commit_call d s k).answer ≡ Ok ((head_of s).epoch + 1)
   unfolding appended
   commit-append-serves w room bounded =
       ap (λ (r : Outcome). r.answer)
       (commit-appends d s k (orderly-usable d s o) w
       ∙ append-served d s (the_list s false) refl _ (may-commit d s o (writes-open s k w) false proper more bounded) room)
 
-  pub commit-truncate-serves : cuts s k ≡ true → Bounded s true → (commit_call d s k).answer ≡ Done ((head_of s).epoch + 1)
+  pub commit-truncate-serves : cuts s k ≡ true → Bounded s true → (commit_call d s k).answer ≡ Ok ((head_of s).epoch + 1)
   unfolding truncated_by
   commit-truncate-serves c bounded =
       let other : writes s k ≡ false

@@ -1,14 +1,12 @@
 -- What an append's commit leaves in the directories: of each tape that it touched what `settled` says, of every other directory what was there. List and
 -- record, and the writer's place that is closed at the end, are no file's business. Assumes nothing.
-use Rattle.std.specs.Prelude.{◌≡◌, true, List, []}
+use Rattle.std.specs.Prelude.{◌≡◌, true, List, [], Option, Some, None}
 use Rattle.std.proofs.Math.Path.{refl, sym, ap, fun_ext}
 use Rattle.std.proofs.Common.{◌∙◌, arith}
 use Rattle.std.proofs.Math.Bool.{false}
 use Prim.Native.Nat.{ℕ, ◌+◌, ◌*◌, ◌≤◌, ◌<◌, ◌^◌}
 use Rattle.octets.specs.Only.{OnlyIn, num_at-only}
 use Rattle.octets.specs.Words.{table, table_same}
-use Rattle.octets.specs.declared.Found.{Found}
-use Rattle.octets.specs.declared.Found.TheVariants.{At, Nothing}
 use Rattle.components.specs.Pieces.{file_of}
 use Rattle.components.specs.Files.{Files, mark_below, remove}
 use Rattle.metadata.specs.declared.list.TapeList.{TapeList}
@@ -66,9 +64,9 @@ files-slots : (m : Disk) (t : ℕ → Tracking) (q : ℕ) → files_of m t q ≡
 unfolding files_of
 files-slots m t q = fun_ext (λ (k : ℕ). by (slot_with m q k))
   where
-    by : (f : Found) → file_at m t f ≡ file_at (slots_only m) t f
-    by (At i) = refl
-    by Nothing = refl
+    by : (f : Option ℕ) → file_at m t f ≡ file_at (slots_only m) t f
+    by (Some i) = refl
+    by None = refl
 
 -- what is below the file table is none of theirs
 module _ (low : ℕ) (d e : List ℕ) (only : OnlyIn low 1312 d e) (above : 16 ≤ low) where
@@ -188,7 +186,7 @@ module _ (d s : List ℕ) (o : Orderly d s) (more : (head_of s).epoch + 1 < 2 ^ 
 
   -- ---- the files after it
 
-  pub settled-own : (p place : ℕ) → p < 8 → touched_place d s p ≡ At place
+  pub settled-own : (p place : ℕ) → p < 8 → touched_place d s p ≡ Some place
       → files_at (areas (appended d s (the_list s false)).disk (appended d s (the_list s false)).session) place
       ≡ (settled (file_size_of s p) (transaction_of s 16).epoch (oldest_of s) (staged_of s p).len (staged_of s p).start (held_at (areas d s) place p (staged_of s p).unwritten)).files
   unfolding appended ripened_append stored_append settled
@@ -201,7 +199,7 @@ module _ (d s : List ℕ) (o : Orderly d s) (more : (head_of s).epoch + 1 < 2 ^ 
       ∙ ap (λ (n : ℕ). first (file_size_of s p) n (files_at a₂ place)) (start₂ p low (place-touched d s p place e))
       ∙ ap (first (file_size_of s p) (staged_of s p).start) (files₂ place ∙ flushed-own a₀ start (places-apart d s o) inside o.once room p place low e)
 
-  pub settled-other : (q : ℕ) → ((p : ℕ) → p < 8 → touched_place d s p ≡ At q → ⊥)
+  pub settled-other : (q : ℕ) → ((p : ℕ) → p < 8 → touched_place d s p ≡ Some q → ⊥)
       → files_at (areas (appended d s (the_list s false)).disk (appended d s (the_list s false)).session) q ≡ files_at (areas d s) q
   unfolding appended ripened_append stored_append
   settled-other q none =

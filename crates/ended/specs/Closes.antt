@@ -1,9 +1,8 @@
 -- A transaction dropped: a reader, or a truncate (an append's drop takes back what it staged). Of a reader its place is closed; of a truncate also what was
 -- staged is forgotten, and that was no unwritten byte. Assumes nothing.
-use Rattle.std.specs.Prelude.{◌≡◌, refl, ◌≢◌, Bool, true, false, not, ◌&&◌, List, ℕ, ◌<◌, eqb}
+use Rattle.std.specs.Prelude.{◌≡◌, refl, ◌≢◌, Bool, true, false, not, ◌&&◌, List, ℕ, ◌<◌, eqb, Some}
 use Rattle.std.proofs.Common.{sym, ◌∙◌, subst, true≢false, arith, eq-eqb, ne_eqb}
 use Rattle.std.proofs.Math.Path.{ap}
-use Rattle.octets.specs.declared.Found.TheVariants.{At}
 use Rattle.layout.specs.NamesLaws.{name-low}
 use Rattle.layout.specs.Session.{names_at, handle_number}
 use Rattle.layout.specs.SessionLaws.{begun→, →begun}
@@ -93,7 +92,7 @@ module _ (d s u : List ℕ) (t : ℕ) (c : ClosesOne s u t) (o : Orderly d s) wh
 
 -- ---- a reader
 
-module _ (d s : List ℕ) (o : Orderly d s) (k t : ℕ) (found : find_transaction s k ≡ At t) (low : t < 16) where
+module _ (d s : List ℕ) (o : Orderly d s) (k t : ℕ) (found : find_transaction s k ≡ Some t) (low : t < 16) where
   abbrev dropped : List ℕ
   dropped = (drop_transaction_call d s k).session
 
@@ -186,7 +185,7 @@ module _ (d s : List ℕ) (o : Orderly d s) (k t : ℕ) (found : find_transactio
 
 -- ---- a truncate
 
-module _ (d s : List ℕ) (o : Orderly d s) (k : ℕ) (found : find_transaction s k ≡ At 16) (kind : (transaction_of s 16).kind ≡ K.Truncate) where
+module _ (d s : List ℕ) (o : Orderly d s) (k : ℕ) (found : find_transaction s k ≡ Some 16) (kind : (transaction_of s 16).kind ≡ K.Truncate) where
   abbrev left_by : List ℕ
   left_by = (drop_transaction_call d s k).session
 

@@ -1,6 +1,6 @@
 -- An append's commit that is served does to what is seen of every name what `lives` says of a commit: of a tape that it touched the staged view is
 -- published and its files are settled, of every other one the view is published as it was. Assumes nothing.
-use Rattle.std.specs.Prelude.{◌≡◌, refl, Bool, false, cond, List, ℕ, ◌+◌, ◌≤◌, ◌<◌, length}
+use Rattle.std.specs.Prelude.{◌≡◌, refl, Bool, false, cond, List, ℕ, ◌+◌, ◌≤◌, ◌<◌, length, Option, Some, None}
 use Rattle.std.proofs.Common.{sym, subst, ◌∙◌, true≢false, arith}
 use Rattle.std.proofs.Math.Path.{ap}
 use Rattle.std.proofs.Math.Bool.{true}
@@ -8,8 +8,6 @@ use Rattle.std.proofs.lemmas.Bool.{false≢true}
 use borrow.Author.Tests.{eq-eqb}
 use Rattle.std.proofs.Math.Dec.{eqb}
 use Rattle.octets.specs.Cases.{decide}
-use Rattle.octets.specs.declared.Found.{Found}
-use Rattle.octets.specs.declared.Found.TheVariants.{At, Nothing}
 use Rattle.answers.specs.Answers.{code_of}
 use Rattle.answers.specs.Outcome.{Outcome}
 use Rattle.components.specs.Epochs.{oldest_other}
@@ -56,7 +54,7 @@ module _ (s : List ℕ) (k : ℕ) (w : writes s k ≡ true) where
   abbrev store_then : View → Store → After
   store_then v st = committed st false v.listed v.len v.start (held_then v st)
 
-  step_is : (tape : Found) (st : Store) → writer_in s tape ≡ st.writer → step (commit k) st ≡ store_then (staged_in s tape) st
+  step_is : (tape : Option ℕ) (st : Store) → writer_in s tape ≡ st.writer → step (commit k) st ≡ store_then (staged_in s tape) st
   unfolding step
   step_is tape st writer =
       let number : eqb k (transaction_of s 16).number ≡ true = eq-eqb k (transaction_of s 16).number (sym (writes_as s k w)) in
@@ -79,7 +77,7 @@ module _ (b : Bool) (fs began oldest len start : ℕ) (h : Held) where
 
 -- ---- what is seen
 
-pub touched-view : (s : List ℕ) (p : ℕ) → is_touched s p ≡ true → staged_in s (At p) ≡ record { listed = true; len = (staged_of s p).len; start = (staged_of s p).start }
+pub touched-view : (s : List ℕ) (p : ℕ) → is_touched s p ≡ true → staged_in s (Some p) ≡ record { listed = true; len = (staged_of s p).len; start = (staged_of s p).start }
 unfolding seen_by
 touched-view s p t = rw (touched-its-row s p t).0
 
@@ -97,11 +95,11 @@ module _ (d s : List ℕ) (o : Orderly d s) (k : ℕ) (w : writes s k ≡ true) 
   -- ---- rows of the tape of a name, where it stands
 
   module _ (n : List ℕ) where
-    list-after : (tape : Found) → place_of s n ≡ tape → view_in u 17 tape ≡ staged_in s tape
-    list-after (At p) at = let low = name-low s names_at n p at in ap shown ((left d s o k w served).list p low ∙ published-seen p low)
-    list-after Nothing at = refl
+    list-after : (tape : Option ℕ) → place_of s n ≡ tape → view_in u 17 tape ≡ staged_in s tape
+    list-after (Some p) at = let low = name-low s names_at n p at in ap shown ((left d s o k w served).list p low ∙ published-seen p low)
+    list-after None at = refl
 
-  writer-after : (tape : Found) → writer_in u tape ≡ Writer.idle
+  writer-after : (tape : Option ℕ) → writer_in u tape ≡ Writer.idle
   writer-after tape = rw (left d s o k w served).shut
 
   -- ---- its files
@@ -111,11 +109,11 @@ module _ (d s : List ℕ) (o : Orderly d s) (k : ℕ) (w : writes s k ≡ true) 
     v = staged_in s (place_of s n)
 
     -- no tape of the name was touched
-    files-apart : ((p : ℕ) → place_of s n ≡ At p → is_touched s p ≡ false) → files_for e u n ≡ files_for d s n
+    files-apart : ((p : ℕ) → place_of s n ≡ Some p → is_touched s p ≡ false) → files_for e u n ≡ files_for d s n
     files-apart none = ap (files_in e u) (same-directory d s o k w served n) ∙ by (find_name d directories n) refl
       where
-        by : (f : Found) → find_name d directories n ≡ f → files_in e u f ≡ files_in d s f
-        by (At q) there =
+        by : (f : Option ℕ) → find_name d directories n ≡ f → files_in e u f ≡ files_in d s f
+        by (Some q) there =
             let a = commit-appends d s o.session-bytes k w served in
             subst (λ (x : Outcome). files_at (areas x.disk x.session) q ≡ files_at (areas d s) q) (sym a.is)
             (settled-other d s o a.more a.good inside a.room q
@@ -123,12 +121,12 @@ module _ (d s : List ℕ) (o : Orderly d s) (k : ℕ) (w : writes s k ≡ true) 
             let touched = place-touched d s p q own in
             let named : name s names_at p ≡ n
             = sym (found_name d directories (name s names_at p) q (place-directory d s p q own)) ∙ found_name d directories n q there in
-            let at : place_of s n ≡ At p
+            let at : place_of s n ≡ Some p
             = found_at s names_at n p low named (λ x l same. sym (o.names p x low l (touched-named d s o p low touched) (named ∙ sym same))) in
             true≢false (sym touched ∙ none p at)))
-        by Nothing there = refl
+        by None there = refl
 
-    module _ (p : ℕ) (at : place_of s n ≡ At p) (touched : is_touched s p ≡ true) where
+    module _ (p : ℕ) (at : place_of s n ≡ Some p) (touched : is_touched s p ≡ true) where
       low : p < 8
       low = name-low s names_at n p at
 
@@ -139,14 +137,14 @@ module _ (d s : List ℕ) (o : Orderly d s) (k : ℕ) (w : writes s k ≡ true) 
       files-settled : files_for e u n ≡ (settled st.size (transaction_of s 16).epoch (oldest_other st.epoch (epochs st.readers)) v.len v.start st.held).files
       files-settled = by (directory_of d s p) refl
         where
-          by : (f : Found) → directory_of d s p ≡ f
+          by : (f : Option ℕ) → directory_of d s p ≡ f
               → files_for e u n ≡ (settled st.size (transaction_of s 16).epoch (oldest_other st.epoch (epochs st.readers)) v.len v.start st.held).files
-          by (At q) there =
+          by (Some q) there =
               let a = commit-appends d s o.session-bytes k w served in
               let row = staged_of s p in
               let began = (transaction_of s 16).epoch in
-              let dir : find_name d directories n ≡ At q = ap (find_name d directories) (sym (found_name s names_at n p at)) ∙ there in
-              let own : touched_place d s p ≡ At q = touched-place d s p touched ∙ there in
+              let dir : find_name d directories n ≡ Some q = ap (find_name d directories) (sym (found_name s names_at n p at)) ∙ there in
+              let own : touched_place d s p ≡ Some q = touched-place d s p touched ∙ there in
               let opened = seen.opened p at live in
               let lacked : row.unwritten ≡ st.held.unwritten = ap (λ (r : Staged). r.unwritten) (sym (touched-its-row s p touched).1) ∙ opened.unwritten in
               let here : files_at (areas d s) q ≡ st.held.files = ap (files_in d s) (sym dir) ∙ seen.files in
@@ -165,29 +163,29 @@ module _ (d s : List ℕ) (o : Orderly d s) (k : ℕ) (w : writes s k ≡ true) 
               ∙ ap (λ (x : View). (settled st.size began (oldest_other st.epoch (epochs st.readers)) x.len x.start (held_at (areas d s) q p row.unwritten)).files)
               (sym view)
               ∙ ap (λ (x : Held). (settled st.size began (oldest_other st.epoch (epochs st.readers)) v.len v.start x).files) held
-          by Nothing there = absurd (false≢true (ap is_found (sym there) ∙ o.folder p low (touched-held s p touched)))
+          by None there = absurd (false≢true (ap is_found (sym there) ∙ o.folder p low (touched-held s p touched)))
 
     files-after : files_for e u n ≡ (held_then s k w v st).files
     files-after = by (place_of s n) refl
       where
-        apart : ((p : ℕ) → place_of s n ≡ At p → is_touched s p ≡ false) → st.touched ≡ false → files_for e u n ≡ (held_then s k w v st).files
+        apart : ((p : ℕ) → place_of s n ≡ Some p → is_touched s p ≡ false) → st.touched ≡ false → files_for e u n ≡ (held_then s k w v st).files
         apart none idle = rw idle (files-apart none ∙ seen.files)
 
-        by : (f : Found) → place_of s n ≡ f → files_for e u n ≡ (held_then s k w v st).files
-        by (At p) at =
+        by : (f : Option ℕ) → place_of s n ≡ f → files_for e u n ≡ (held_then s k w v st).files
+        by (Some p) at =
             let staged : is_touched s p ≡ st.touched
             = touched-staged d s o p (name-low s names_at n p at) ∙ ap (touched_in s) (sym at) ∙ seen.touched in
             decide (is_touched s p)
             (λ (t : is_touched s p ≡ true). let own : st.touched ≡ true = sym staged ∙ t in rw own (files-settled p at t))
             (λ (t : is_touched s p ≡ false).
-            apart (λ q there. let same : p ≡ q = let z : At p ≡ At q = sym at ∙ there in cc in ap (is_touched s) (sym same) ∙ t) (sym staged ∙ t))
-        by Nothing at = apart (λ q there. absurd (no_place (sym at ∙ there))) (sym seen.touched ∙ ap (touched_in s) at)
+            apart (λ q there. let same : p ≡ q = let z : Some p ≡ Some q = sym at ∙ there in cc in ap (is_touched s) (sym same) ∙ t) (sym staged ∙ t))
+        by None at = apart (λ q there. absurd (no_place (sym at ∙ there))) (sym seen.touched ∙ ap (touched_in s) at)
 
     -- ---- an open tape
 
-    opened_after : (p : ℕ) → place_of u n ≡ At p → st.live ≡ true → SeenOpen u p (store_then s k w v st).store
+    opened_after : (p : ℕ) → place_of u n ≡ Some p → st.live ≡ true → SeenOpen u p (store_then s k w v st).store
     opened_after p there live =
-        let at : place_of s n ≡ At p = sym (same_place d s o k w served n) ∙ there in
+        let at : place_of s n ≡ Some p = sym (same_place d s o k w served n) ∙ there in
         let low = name-low s names_at n p at in
         let old = seen.opened p at live in
         let was-held = st.held in
@@ -246,7 +244,7 @@ staged-length epoch number began len start here content (Staging.cutting m c) e 
 
 module _ (d s : List ℕ) (k : ℕ) (w : writes s k ≡ true) where
   -- of one tape
-  pub inside-tape : (n : List ℕ) (t : Told) (h : Phys) → Good t h → Seen d s n (build t h) → (p : ℕ) → place_of s n ≡ At p → is_touched s p ≡ true
+  pub inside-tape : (n : List ℕ) (t : Told) (h : Phys) → Good t h → Seen d s n (build t h) → (p : ℕ) → place_of s n ≡ Some p → is_touched s p ≡ true
       → (staged_of s p).unwritten ≤ (staged_of s p).len
   inside-tape n t h good seen p at touched =
       let live : t.live ≡ true = sym seen.live ∙ live_at s n p at (touched-held s p touched) in
@@ -263,6 +261,6 @@ module _ (d s : List ℕ) (k : ℕ) (w : writes s k ≡ true) where
   inside-all o each p low touched =
       let n = name s names_at p in
       let some = touched-named d s o p low touched in
-      let at : place_of s n ≡ At p = found_at s names_at n p low refl (λ q l same. sym (o.names p q low l some (sym same))) in
+      let at : place_of s n ≡ Some p = found_at s names_at n p low refl (λ q l same. sym (o.names p q low l some (sym same))) in
       let x = each n some in
       inside-tape n x.0 x.1.0 x.1.1.0 x.1.1.1 p at touched

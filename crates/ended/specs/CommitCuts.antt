@@ -1,13 +1,11 @@
 -- The commit of a truncate, as what is seen of each tape: it makes the model's step `commit`, and its handle stays. Assumes nothing.
-use Rattle.std.specs.Prelude.{◌≡◌, ◌≢◌, Bool, cond, List, ℕ, ◌+◌, ◌≤◌, ◌<◌, min}
+use Rattle.std.specs.Prelude.{◌≡◌, ◌≢◌, Bool, cond, List, ℕ, ◌+◌, ◌≤◌, ◌<◌, min, Option, Some, None}
 use Rattle.std.proofs.Math.Path.{refl, sym}
 use Rattle.std.proofs.Common.{ap, ◌∙◌, true≢false, arith}
 use Rattle.std.proofs.Math.Bool.{true, false}
 use Rattle.std.proofs.lemmas.Bool.{false≢true}
 use borrow.Author.Tests.{eq-eqb}
 use Rattle.octets.specs.Cases.{decide}
-use Rattle.octets.specs.declared.Found.{Found}
-use Rattle.octets.specs.declared.Found.TheVariants.{At, Nothing}
 use Rattle.answers.specs.Answers.{code_of}
 use Rattle.layout.specs.Names.{name}
 use Rattle.layout.specs.NamesLaws.{name-low}
@@ -55,12 +53,12 @@ module _ (d s e u : List ℕ) (o : Orderly d s) (k : ℕ) (c : CutLeft d s k e u
     stepped = rw (its-writer, eq-eqb k k refl)
 
     -- a tape in place p
-    module _ (p : ℕ) (found : place_of s n ≡ At p) where
+    module _ (p : ℕ) (found : place_of s n ≡ Some p) where
       low : p < 8
       low = name-low s names_at n p found
 
       its-len : staged-len n ≡ (shown (seen_by s 16 p)).len
-      its-len = ap (λ (f : Found). (staged_in s f).len) found
+      its-len = ap (λ (f : Option ℕ). (staged_in s f).len) found
 
       module _ (touched : is_touched s p ≡ true) where
         held : handle_number s p ≢ 0
@@ -88,7 +86,7 @@ module _ (d s e u : List ℕ) (o : Orderly d s) (k : ℕ) (c : CutLeft d s k e u
           let same : st.start ≡ min st.start st.len = omega arith in
           rw e (λ i. record { listed = st.listed; len = st.len; start = same i })
 
-      list-place : (p : ℕ) → place_of s n ≡ At p → shown (view_of u 17 p) ≡ listed_now
+      list-place : (p : ℕ) → place_of s n ≡ Some p → shown (view_of u 17 p) ≡ listed_now
       list-place p found =
           decide (is_touched s p)
           (λ (touched : is_touched s p ≡ true).
@@ -105,18 +103,18 @@ module _ (d s e u : List ℕ) (o : Orderly d s) (k : ℕ) (c : CutLeft d s k e u
       list-now : view_in u 17 (place_of u n) ≡ listed_now
       list-now = ap (view_in u 17) (place_same n) ∙ by (place_of s n) refl
         where
-          by : (f : Found) → place_of s n ≡ f → view_in u 17 f ≡ listed_now
-          by (At p) found = list-place p found
-          by Nothing found =
+          by : (f : Option ℕ) → place_of s n ≡ f → view_in u 17 f ≡ listed_now
+          by (Some p) found = list-place p found
+          by None found =
               let e = sym (ap (view_in s 17) found) ∙ seen.list in
-              let none : staged-len n ≡ st.len = ap (λ (f : Found). (staged_in s f).len) found ∙ ap (λ (v : View). v.len) e in
+              let none : staged-len n ≡ st.len = ap (λ (f : Option ℕ). (staged_in s f).len) found ∙ ap (λ (v : View). v.len) e in
               e ∙ listed-still none
 
     -- the cache and the files of an open tape
     abbrev held_now : Held
     held_now = cond st.touched (trimmed st.size (staged-len n) st.held) st.held
 
-    files-place : (p : ℕ) → place_of s n ≡ At p → files_for e u n ≡ held_now.files
+    files-place : (p : ℕ) → place_of s n ≡ Some p → files_for e u n ≡ held_now.files
     unfolding trimmed
     files-place p found =
         let l = low p found in
@@ -134,13 +132,13 @@ module _ (d s e u : List ℕ) (o : Orderly d s) (k : ℕ) (c : CutLeft d s k e u
     files-now : files_for e u n ≡ held_now.files
     files-now = by (place_of s n) refl
       where
-        by : (f : Found) → place_of s n ≡ f → files_for e u n ≡ held_now.files
-        by (At p) found = files-place p found
-        by Nothing found =
+        by : (f : Option ℕ) → place_of s n ≡ f → files_for e u n ≡ held_now.files
+        by (Some p) found = files-place p found
+        by None found =
             let now : st.touched ≡ false = sym seen.touched ∙ ap (touched_in s) found in
             c.ends.apart n (λ i l touched. not_found s names_at n found i l) ∙ rw (now, seen.files)
 
-    open-now : (p : ℕ) → place_of s n ≡ At p → st.live ≡ true → st.held.unwritten ≡ 0
+    open-now : (p : ℕ) → place_of s n ≡ Some p → st.live ≡ true → st.held.unwritten ≡ 0
         → (ring_of u p ≡ held_now.ring) × (ring_bytes u p ≡ held_now.cache) × (0 ≡ held_now.unwritten)
     unfolding trimmed
     open-now p found live written =
@@ -177,7 +175,7 @@ module _ (d s e u : List ℕ) (o : Orderly d s) (k : ℕ) (c : CutLeft d s k e u
           live = live-rows s u n (place_same n) (λ p found. c.handles p (low p found)) ∙ seen.live;
           files = files-now;
           opened = λ p found live.
-              let q : place_of s n ≡ At p = sym (place_same n) ∙ found in
+              let q : place_of s n ≡ Some p = sym (place_same n) ∙ found in
               let l = low p q in
               let now = open-now p q live (written live) in
               record {

@@ -1,6 +1,6 @@
 -- What a commit publishes makes a list that has every published tape just once, and no start in it is above its length. What is served with it is in
 -- proofs/Commitable.antt. Assumes nothing.
-use Rattle.std.specs.Prelude.{◌≡◌, ◌≢◌, Bool, ◌&&◌}
+use Rattle.std.specs.Prelude.{◌≡◌, ◌≢◌, Bool, ◌&&◌, Option, Some, None}
 use Rattle.std.proofs.Math.Path.{refl, sym, ap}
 use Rattle.std.proofs.Common.{subst, ◌∙◌}
 use Rattle.std.proofs.Math.Bool.{true, false}
@@ -11,8 +11,6 @@ use Rattle.std.proofs.Math.ListN.{length}
 use Rattle.octets.specs.Cases.{decide}
 use Rattle.octets.specs.Compare.{comes_before, before-irrefl, before-trans, before-total}
 use Rattle.octets.specs.First.{count, count_same, count-more}
-use Rattle.octets.specs.declared.Found.{Found}
-use Rattle.octets.specs.declared.Found.TheVariants.{At, Nothing}
 use Rattle.layout.specs.Names.{name}
 use Rattle.layout.specs.Session.{names_at}
 use Rattle.session.specs.Rows.{view_of, staged_of}
@@ -49,7 +47,7 @@ is_behind s cut before p = (published s cut p).listed && comes_before before (na
 module _ (s : List ℕ) (cut : Bool)
     (apart : (p q : ℕ) → p < 8 → q < 8 → (published s cut p).listed ≡ true → (published s cut q).listed ≡ true → name s names_at p ≡ name s names_at q → p ≡ q) where
   -- behind the name that is found there is one tape less
-  one_less : (before : List ℕ) (p : ℕ) → next_behind s cut before ≡ At p → count (is_behind s cut before) 8 0 ≡ count (is_behind s cut (name s names_at p)) 8 0 + 1
+  one_less : (before : List ℕ) (p : ℕ) → next_behind s cut before ≡ Some p → count (is_behind s cut before) 8 0 ≡ count (is_behind s cut (name s names_at p)) 8 0 + 1
   one_less before p e =
       let found = next-found s cut before p e in
       count-more (is_behind s cut (name s names_at p)) (is_behind s cut before) 8 0 p (omega arith) found.low
@@ -73,7 +71,7 @@ module _ (s : List ℕ) (cut : Bool)
           absurd (other (sym (apart p m found.low low found.listed listed same))))
           (λ (before-it : comes_before before (name s names_at m) ≡ false). before-it ∙ sym no))
 
-  none_left : (before : List ℕ) → next_behind s cut before ≡ Nothing → count (is_behind s cut before) 8 0 ≡ 0
+  none_left : (before : List ℕ) → next_behind s cut before ≡ None → count (is_behind s cut before) 8 0 ≡ 0
   none_left before e =
       count_none (is_behind s cut before)
       (λ q low.
@@ -86,13 +84,13 @@ module _ (s : List ℕ) (cut : Bool)
   as_many zero before few = omega arith
   as_many (suc k) before few = by (next_behind s cut before) refl (as_many k)
     where
-      by : (f : Found) → next_behind s cut before ≡ f
+      by : (f : Option ℕ) → next_behind s cut before ≡ f
           → ((last : List ℕ) → count (is_behind s cut last) 8 0 ≤ k → length (list_behind s cut k last) ≡ count (is_behind s cut last) 8 0)
           → length (with_next s cut (list_behind s cut k) f) ≡ count (is_behind s cut before) 8 0
-      by (At p) e rest =
+      by (Some p) e rest =
           let less = one_less before p e in
           omega (arith, rest (name s names_at p) (omega arith))
-      by Nothing e rest = sym (none_left before e)
+      by None e rest = sym (none_left before e)
 
 -- no published start is above its length
 abbrev pub Bounded : List ℕ → Bool → Type 0
@@ -117,7 +115,7 @@ module _ (d s : List ℕ) (o : Orderly d s) (t : List ℕ → Told) (h : List �
     abbrev n : List ℕ
     n = name s names_at p
 
-    at : place_of s (name s names_at p) ≡ At p
+    at : place_of s (name s names_at p) ≡ Some p
     at = found_at s names_at n p low refl (λ q l same. sym (o.names p q low l some (sym same)))
 
     -- that is listed

@@ -1,6 +1,6 @@
 -- What the commit of a truncate does to the tapes: of each that was touched the ring is cut and the marks from the new length's file on are cleared; the
 -- others' rows and files are as before. Assumes nothing.
-use Rattle.std.specs.Prelude.{◌≡◌, ◌≢◌, false, cond, not, ℕ, ◌+◌, ◌<◌, eqb}
+use Rattle.std.specs.Prelude.{◌≡◌, ◌≢◌, false, cond, not, ℕ, ◌+◌, ◌<◌, eqb, Option, Some, None}
 use Rattle.std.proofs.Math.Path.{refl, ap, fun_ext}
 use Rattle.std.proofs.Common.{sym, ◌∙◌, true≢false, arith}
 use Rattle.std.proofs.Math.Bool.{true, and-false}
@@ -8,8 +8,6 @@ use mathlib.Core.List.{List}
 use Rattle.octets.specs.Cases.{decide, picked}
 use Rattle.octets.specs.Number.{Bytes}
 use Rattle.octets.specs.Only.{OnlyIn, num_at-only}
-use Rattle.octets.specs.declared.Found.{Found}
-use Rattle.octets.specs.declared.Found.TheVariants.{At, Nothing}
 use Rattle.answers.specs.Answers.{code_of}
 use Rattle.answers.specs.Outcome.{Outcome}
 use Rattle.components.specs.FileBytes.{written}
@@ -76,7 +74,7 @@ module _ (d t : List ℕ) (sound : Sound d) (begun : Begun t) (bytes : Bytes t) 
   ring-whole : Whole (areas d ringed)
   ring-whole = record { sound = sound; begun = begun-cut_ring i t low begun; bytes = ring-bytes }
 
-  module _ (is : is_touched t i ≡ true) (place : ℕ) (found : directory_of d t i ≡ At place) (n : ℕ) where
+  module _ (is : is_touched t i ≡ true) (place : ℕ) (found : directory_of d t i ≡ Some place) (n : ℕ) where
     abbrev cleared : List ℕ
     cleared = retracked d ringed place (ClearFrom n)
 
@@ -112,10 +110,10 @@ module _ (d t : List ℕ) (sound : Sound d) (begun : Begun t) (bytes : Bytes t) 
   unfolding cut_tape handle_of
   cut-touched is folder = rw is (by (directory_of d t i) refl)
     where
-      by : (f : Found) → directory_of d t i ≡ f
+      by : (f : Option ℕ) → directory_of d t i ≡ f
           → Turn d t (clear_in d (cut_ring i t) (file_size_of t i) (staged_of t i).len f) i (name t names_at i) (cut_row (row_of t i)) (cut_files (row_of t i) (files_for d t (name t names_at i)))
-      by (At place) found = cleared-turn d t sound begun bytes i low is place found (file_of (file_size_of t i) (staged_of t i).len)
-      by Nothing found = absurd (true≢false (sym folder ∙ ap is_found found))
+      by (Some place) found = cleared-turn d t sound begun bytes i low is place found (file_of (file_size_of t i) (staged_of t i).len)
+      by None found = absurd (true≢false (sym folder ∙ ap is_found found))
 
   cut-untouched : is_touched t i ≡ false → (wanted : List ℕ) → Turn d t (cut_tape d i t) i wanted (row_of t i) (files_for d t wanted)
   unfolding cut_tape
@@ -163,10 +161,10 @@ module _ (d s : List ℕ) (sound : Sound d) (begun : Begun s) (bytes : Bytes s) 
 
 -- ---- list and record: the rows stay, and of the disk everything but left and right
 
-side-file : (m : Disk) (side : Side) (bs : List ℕ) (f : ℕ → Tracking) (found : Found) → file_at (with_side m side bs) f found ≡ file_at m f found
-side-file m Left bs f (At i) = refl
-side-file m Right bs f (At i) = refl
-side-file m side bs f Nothing = refl
+side-file : (m : Disk) (side : Side) (bs : List ℕ) (f : ℕ → Tracking) (found : Option ℕ) → file_at (with_side m side bs) f found ≡ file_at m f found
+side-file m Left bs f (Some i) = refl
+side-file m Right bs f (Some i) = refl
+side-file m side bs f None = refl
 
 side-slot : (m : Disk) (side : Side) (bs : List ℕ) (place k : ℕ) → slot_with (with_side m side bs) place k ≡ slot_with m place k
 side-slot m Left bs place k = refl
@@ -222,12 +220,12 @@ module _ (d s : List ℕ) (sound : Sound d) (begun : Begun s) (list : TapeList) 
   stored-files : (n : List ℕ) → files_for e b n ≡ files_for d s n
   stored-files n = ap (files_in e b) (stored-known n) ∙ by (find_name d directories n)
     where
-      by : (found : Found) → files_in e b found ≡ files_in d s found
-      by (At q) =
+      by : (found : Option ℕ) → files_in e b found ≡ files_in d s found
+      by (Some q) =
           ap (λ (m : Disk). files_of m (session_of b).tracking q) stored-disk
           ∙ side-files (disk_of d) side _ (session_of b).tracking q
           ∙ ap (λ (f : ℕ → Tracking). files_of (disk_of d) f q) stored-tracking
-      by Nothing = refl
+      by None = refl
 
 -- ---- the call
 

@@ -1,6 +1,6 @@
 -- What the drop of an append leaves, row by row, of areas in order: head, views, caches and readers stay, nothing is staged any more, a tape that the append
 -- made is gone, and the others keep their names and handles. So the areas are in order again. Assumes nothing.
-use Rattle.std.specs.Prelude.{◌≡◌, refl, ◌≢◌, true, false, not, List, [], ℕ, ◌<◌, length}
+use Rattle.std.specs.Prelude.{◌≡◌, refl, ◌≢◌, true, false, not, List, [], ℕ, ◌<◌, length, Option, Some, None, Ok}
 use Rattle.std.proofs.Common.{sym, ◌∙◌, true≢false}
 use Rattle.std.proofs.Math.Path.{ap}
 use native.Mathlib.Omega.{arith}
@@ -9,9 +9,6 @@ use Rattle.octets.specs.Cases.{decide, and_r}
 use Rattle.octets.specs.Compare.{same_bytes, same_true}
 use Rattle.octets.specs.First.{first-hits, first-never}
 use Rattle.octets.specs.Sweep.{sweep, sweep-keeps}
-use Rattle.octets.specs.declared.Found.{Found}
-use Rattle.octets.specs.declared.Found.TheVariants.{At, Nothing}
-use Rattle.answers.specs.declared.Answer.TheVariants.{Done}
 use Rattle.layout.specs.Names.{name, find_name}
 use Rattle.layout.specs.NamesLaws.{name-low}
 use Rattle.layout.specs.Session.{names_at, handle_number, Begun}
@@ -133,7 +130,7 @@ module _ (d s : List ℕ) (o : Orderly d s) (k : ℕ) (u : List ℕ) (c : DropLe
         let e = ap length same in
         sym (stays-name q l (named-stays q l (omega arith))) ∙ same
 
-    nowhere : ((q : ℕ) → q < 8 → name s names_at q ≡ n → name u names_at q ≡ n → ⊥) → place_of u n ≡ Nothing
+    nowhere : ((q : ℕ) → q < 8 → name s names_at q ≡ n → name u names_at q ≡ n → ⊥) → place_of u n ≡ None
     unfolding find_name
     nowhere none =
         first-never (λ i. same_bytes (name u names_at i) n) 8 0
@@ -145,10 +142,10 @@ module _ (d s : List ℕ) (o : Orderly d s) (k : ℕ) (u : List ℕ) (c : DropLe
         absurd (none q l (was-named q l same) same))
         (λ e. e))
 
-    pub place_none : place_of s n ≡ Nothing → place_of u n ≡ Nothing
+    pub place_none : place_of s n ≡ None → place_of u n ≡ None
     place_none found = nowhere (λ q l same now. not_found s names_at n found q l same)
 
-    module _ (p : ℕ) (found : place_of s n ≡ At p) where
+    module _ (p : ℕ) (found : place_of s n ≡ Some p) where
       low : p < 8
       low = name-low s names_at n p found
 
@@ -159,11 +156,11 @@ module _ (d s : List ℕ) (o : Orderly d s) (k : ℕ) (u : List ℕ) (c : DropLe
           let e = ap length same in
           o.names q p l low (omega arith) (same ∙ sym named)
 
-      pub place-stays : Stays s p → place_of u n ≡ At p
+      pub place-stays : Stays s p → place_of u n ≡ Some p
       place-stays stays =
           found_at u names_at n p low (stays-name p low stays ∙ found_name s names_at n p found) (λ q l same. alone q l (was-named q l same))
 
-      pub place-gone : is_touched s p ≡ true → (view_of s 17 p).listed ≡ false → place_of u n ≡ Nothing
+      pub place-gone : is_touched s p ≡ true → (view_of s 17 p).listed ≡ false → place_of u n ≡ None
       place-gone is none =
           nowhere
           (λ q l same now.
@@ -176,19 +173,19 @@ module _ (d s : List ℕ) (o : Orderly d s) (k : ℕ) (u : List ℕ) (c : DropLe
         → view_in u w (place_of u n) ≡ view_in s w (place_of s n)
     view-same w l less = by (place_of s n) refl
       where
-        by : (f : Found) → place_of s n ≡ f → view_in u w (place_of u n) ≡ view_in s w f
-        by (At p) found =
+        by : (f : Option ℕ) → place_of s n ≡ f → view_in u w (place_of u n) ≡ view_in s w f
+        by (Some p) found =
             let q = low p found in
             fate p q
             (λ is none.
             let hidden : (view_of s w p).listed ≡ false = decide (view_of s w p).listed (λ yes. absurd (true≢false (sym (less p q yes) ∙ none))) (λ e. e) in
             ap (view_in u w) (place-gone p found is none) ∙ rw hidden)
             (λ stays. ap (view_in u w) (place-stays p found stays) ∙ ap shown (c.views w p l q))
-        by Nothing found = ap (view_in u w) (place_none found)
+        by None found = ap (view_in u w) (place_none found)
 
 -- ---- the call
 
-module _ (d s : List ℕ) (o : Orderly d s) (k : ℕ) (found : find_transaction s k ≡ At 16) (kind : (transaction_of s 16).kind ≡ K.Append) where
+module _ (d s : List ℕ) (o : Orderly d s) (k : ℕ) (found : find_transaction s k ≡ Some 16) (kind : (transaction_of s 16).kind ≡ K.Append) where
   abbrev u : List ℕ
   u = (drop_transaction_call d s k).session
 
@@ -196,7 +193,7 @@ module _ (d s : List ℕ) (o : Orderly d s) (k : ℕ) (found : find_transaction 
   unfolding find_transaction transaction_of
   its-number = eqb-true _ k (and_r (not (is_closed s 16)) _ (first-hits (is_open_as s k) 17 0 16 found).holds)
 
-  pub drop-is : drop_transaction_call d s k ≡ after (Done 0) (drop_append d s)
+  pub drop-is : drop_transaction_call d s k ≡ after (Ok 0) (drop_append d s)
   unfolding drop_at
   drop-is = drop-served d s k (→usable d s o.disk o.session) 16 found (rw kind)
 
@@ -209,7 +206,7 @@ module _ (d s : List ℕ) (o : Orderly d s) (k : ℕ) (found : find_transaction 
   back-begun : Begun back
   back-begun = sweep-keeps Begun (take_back d) 8 0 s (λ j t l m b. begun-take_back d t o.disk b j (omega arith)) o.session
 
-  left : DropLeaves (At 16) s u
+  left : DropLeaves (Some 16) s u
   left = rw found at (drop-transaction-leaves d s k)
 
   pub drop-left : DropLeft d s k u
@@ -227,7 +224,7 @@ module _ (d s : List ℕ) (o : Orderly d s) (k : ℕ) (found : find_transaction 
         head = head-stays _ _ s u left.head-stays (omega arith) (omega arith);
         views = λ w p l m. view-stays _ _ s u left.views-stay w p (omega arith) (omega arith);
         readers = λ t l.
-            let other : At 16 ≢ At t = λ e. let same : 16 ≡ t = cc in omega arith in
+            let other : Some 16 ≢ Some t = λ e. let same : 16 ≡ t = cc in omega arith in
             transaction-stays _ _ s u (left.transactions-stay t (omega arith) other) t (omega arith) (omega arith);
         shut = rw session-is (shut-close_writer back back-begun.long);
         caches = λ p l. cache-stays _ _ s u left.rings-stay long p (omega arith) (omega arith);

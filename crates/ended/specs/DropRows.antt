@@ -1,6 +1,6 @@
 -- What the drop of an append does to the tapes: a touched one that is listed gives up what was staged in its ring, one that the append made loses handle,
 -- ring and name, and its files are not tracked any more; the others' rows and files are as before. Assumes nothing.
-use Rattle.std.specs.Prelude.{◌≡◌, refl, ◌≢◌, Bool, cond, not, ℕ, ◌-◌, ◌<◌, eqb}
+use Rattle.std.specs.Prelude.{◌≡◌, refl, ◌≢◌, Bool, cond, not, ℕ, ◌-◌, ◌<◌, eqb, Option, Some, None}
 use Rattle.std.proofs.Common.{sym, ◌∙◌, true≢false, eq-eqb, ne_eqb}
 use Rattle.std.proofs.Math.Path.{ap}
 use Rattle.std.proofs.Math.Bool.{true, false, and-false}
@@ -9,8 +9,6 @@ use native.Mathlib.Omega.{arith}
 use Rattle.octets.specs.Cases.{picked}
 use Rattle.octets.specs.Number.{Bytes}
 use Rattle.octets.specs.Sweep.{sweep}
-use Rattle.octets.specs.declared.Found.{Found}
-use Rattle.octets.specs.declared.Found.TheVariants.{At, Nothing}
 use Rattle.components.specs.Files.{Files}
 use Rattle.ending.specs.CutLaws.{begun-unstage, bytes-unstage}
 use Rattle.held.specs.Held.{forget}
@@ -113,7 +111,7 @@ module _ (d t : List ℕ) (sound : Sound d) (begun : Begun t) (bytes : Bytes t) 
   unstage-whole : Whole (areas d a)
   unstage-whole = record { sound = sound; begun = begun-unstage t begun i low; bytes = bytes-unstage t begun.long bytes i low }
 
-  module _ (place : ℕ) (found : directory_of d t i ≡ At place) where
+  module _ (place : ℕ) (found : directory_of d t i ≡ Some place) where
     abbrev b : List ℕ
     b = retracked d a place UntrackAll
 
@@ -174,16 +172,16 @@ module _ (d t : List ℕ) (sound : Sound d) (begun : Begun t) (bytes : Bytes t) 
     (folder : is_touched t i ≡ true → is_found (directory_of d t i) ≡ true) where
   -- what holds of each way holds of the step
   back-cases : (P : List ℕ → Type 0) → (is_touched t i ≡ false → P t) → (is_touched t i ≡ true → (view_of t 16 i).listed ≡ true → P (reverted i t))
-      → (is_touched t i ≡ true → (view_of t 16 i).listed ≡ false → (place : ℕ) → directory_of d t i ≡ At place → P (forgotten d i t)) → P (take_back d i t)
+      → (is_touched t i ≡ true → (view_of t 16 i).listed ≡ false → (place : ℕ) → directory_of d t i ≡ Some place → P (forgotten d i t)) → P (take_back d i t)
   unfolding take_back
   back-cases P none reverts forgets =
       picked P (is_touched t i) _ _
       (λ is. picked P (view_of t 16 i).listed _ _ (reverts is) (λ no. by is no (directory_of d t i) refl))
       none
     where
-      by : is_touched t i ≡ true → (view_of t 16 i).listed ≡ false → (f : Found) → directory_of d t i ≡ f → P (forgotten d i t)
-      by is unlisted (At place) found = forgets is unlisted place found
-      by is unlisted Nothing found = absurd (true≢false (sym (folder is) ∙ ap is_found found))
+      by : is_touched t i ≡ true → (view_of t 16 i).listed ≡ false → (f : Option ℕ) → directory_of d t i ≡ f → P (forgotten d i t)
+      by is unlisted (Some place) found = forgets is unlisted place found
+      by is unlisted None found = absurd (true≢false (sym (folder is) ∙ ap is_found found))
 
   back-turn : (wanted : List ℕ) → (touched_row (row_of t i) ≡ true → name t names_at i ≡ wanted) → (listed : Bool) → (view_of t 16 i).listed ≡ listed
       → Turn d t (take_back d i t) i wanted (row_after_drop listed (row_of t i)) (files_after_drop listed (row_of t i) (files_for d t wanted))

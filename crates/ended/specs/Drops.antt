@@ -1,6 +1,6 @@
 -- The drop of an append, as what is seen of each tape: it makes the model's step `drop'`. A tape that the append made loses its handle; the others keep
 -- theirs. Assumes nothing.
-use Rattle.std.specs.Prelude.{◌≡◌, refl, ◌≢◌, Bool, cond, not, ◌&&◌, List, ℕ, ◌-◌, ◌<◌, eqb, length}
+use Rattle.std.specs.Prelude.{◌≡◌, refl, ◌≢◌, Bool, cond, not, ◌&&◌, List, ℕ, ◌-◌, ◌<◌, eqb, length, Option, Some, None}
 use Rattle.std.proofs.Math.Path.{sym, ap}
 use Rattle.std.proofs.Common.{◌∙◌, true≢false}
 use Rattle.std.proofs.Math.Bool.{true, false, and-false}
@@ -9,8 +9,6 @@ use native.Mathlib.Omega.{arith}
 use borrow.Author.Tests.{eq-eqb, ne_eqb}
 use Rattle.octets.specs.Cases.{picked, decide, equal, and_l}
 use Rattle.octets.specs.First.{count_same}
-use Rattle.octets.specs.declared.Found.{Found}
-use Rattle.octets.specs.declared.Found.TheVariants.{At, Nothing}
 use Rattle.layout.specs.NamesLaws.{name-low}
 use Rattle.layout.specs.Session.{names_at, handle_number}
 use Rattle.session.specs.declared.head.Head.{Head}
@@ -35,7 +33,7 @@ use Rattle.seen.specs.Starts.{CutStarts}
 use Rattle.ended.specs.DropLeaves.{row_then, DropLeft, Stays, unstaged, seen-listed, fate, stays-handle, stays-number, stays-listed, place_none, place-stays, place-gone, view-same, drop-left}
 
 module _ (d s : List ℕ) (o : Orderly d s) (k : ℕ) (u : List ℕ) (c : DropLeft d s k u) (n : List ℕ) (some : 0 < length n) where
-  abbrev tape : Found
+  abbrev tape : Option ℕ
   tape = place_of s n
 
   abbrev staged-len : ℕ
@@ -44,15 +42,15 @@ module _ (d s : List ℕ) (o : Orderly d s) (k : ℕ) (u : List ℕ) (c : DropLe
   -- ---- where the tape is, and whether it stays
 
   -- one of three: it is nowhere, it stays, or it is gone
-  cases : (P : Type 0) → (tape ≡ Nothing → P) → ((p : ℕ) → tape ≡ At p → p < 8 → Stays s p → P)
-      → ((p : ℕ) → tape ≡ At p → p < 8 → is_touched s p ≡ true → (view_of s 17 p).listed ≡ false → P) → P
+  cases : (P : Type 0) → (tape ≡ None → P) → ((p : ℕ) → tape ≡ Some p → p < 8 → Stays s p → P)
+      → ((p : ℕ) → tape ≡ Some p → p < 8 → is_touched s p ≡ true → (view_of s 17 p).listed ≡ false → P) → P
   cases P none stays gone = by tape refl
     where
-      by : (f : Found) → tape ≡ f → P
-      by (At p) found =
+      by : (f : Option ℕ) → tape ≡ f → P
+      by (Some p) found =
           let l = name-low s names_at n p found in
           fate d s o k u c p l (λ is unlisted. gone p found l is unlisted) (λ st. stays p found l st)
-      by Nothing found = none found
+      by None found = none found
 
   module _ (st : Store) (seen : Seen d s n st) where
     -- ---- the model's step
@@ -69,14 +67,14 @@ module _ (d s : List ℕ) (o : Orderly d s) (k : ℕ) (u : List ℕ) (c : DropLe
 
     -- ---- what the tape was
 
-    module _ (p : ℕ) (found : tape ≡ At p) (low : p < 8) where
+    module _ (p : ℕ) (found : tape ≡ Some p) (low : p < 8) where
       its-listed : (view_of s 17 p).listed ≡ st.listed
       its-listed = sym (shown-keeps (view_of s 17 p)) ∙ ap (λ (v : View). v.listed) (list_at d s n st seen p found)
 
       -- the length that was staged
       touched-len : is_touched s p ≡ true → staged-len ≡ (staged_of s p).len
       unfolding seen_by
-      touched-len is = ap (λ (f : Found). (staged_in s f).len) found ∙ rw (sym (touched-staged d s o p low) ∙ is)
+      touched-len is = ap (λ (f : Option ℕ). (staged_in s f).len) found ∙ rw (sym (touched-staged d s o p low) ∙ is)
 
     -- ---- what it is now
 
@@ -130,13 +128,13 @@ module _ (d s : List ℕ) (o : Orderly d s) (k : ℕ) (u : List ℕ) (c : DropLe
         (λ (is : is_open_at s t ≡ false). rw (open_row s u t (c.readers t l), is)))
 
     -- the tape is open now: so it was, in this place, and stays
-    module _ (p : ℕ) (now : place_of u n ≡ At p) where
-      was : (tape ≡ At p) × Stays s p
+    module _ (p : ℕ) (now : place_of u n ≡ Some p) where
+      was : (tape ≡ Some p) × Stays s p
       was =
-          cases ((tape ≡ At p) × Stays s p)
+          cases ((tape ≡ Some p) × Stays s p)
           (λ found. absurd (no_place (sym (place_none d s o k u c n some found) ∙ now)))
           (λ q found l stays.
-          let there : At q ≡ At p = sym (place-stays d s o k u c n some q found stays) ∙ now in
+          let there : Some q ≡ Some p = sym (place-stays d s o k u c n some q found stays) ∙ now in
           let same : q ≡ p = cc in
           rw (← same) (found, stays))
           (λ q found l is unlisted. absurd (no_place (sym (place-gone d s o k u c n some q found is unlisted) ∙ now)))
@@ -205,18 +203,18 @@ module _ (d s : List ℕ) (o : Orderly d s) (k : ℕ) (u : List ℕ) (c : DropLe
     number-then : handle_in u (place_of u n) ≡ handle_then handle
     number-then =
         cases (handle_in u (place_of u n) ≡ handle_then handle)
-        (λ found. ap (handle_in u) (place_none d s o k u c n some found) ∙ sym (ap (λ (f : Found). cond (view_in s 17 f).listed handle 0) found))
+        (λ found. ap (handle_in u) (place_none d s o k u c n some found) ∙ sym (ap (λ (f : Option ℕ). cond (view_in s 17 f).listed handle 0) found))
         (λ p found l stays.
         let number : handle_number s p ≡ handle = sym (ap (handle_in s) found) ∙ its.number in
         ap (handle_in u) (place-stays d s o k u c n some p found stays)
         ∙ stays-number d s o k u c p l stays
-        ∙ sym (ap (λ (f : Found). cond (view_in s 17 f).listed handle 0) found ∙ rw (shown-keeps (view_of s 17 p))
+        ∙ sym (ap (λ (f : Option ℕ). cond (view_in s 17 f).listed handle 0) found ∙ rw (shown-keeps (view_of s 17 p))
         (equal (handle_number s p) 0
         (λ (e : handle_number s p ≡ 0). rw (e, ← number) (picked (λ (x : ℕ). x ≡ 0) (view_of s 17 p).listed (handle_number s p) 0 (λ yes. e) (λ none. refl)))
         (λ (held : handle_number s p ≢ 0). rw (stays-listed d s o k u c p l stays held) (sym number)))))
         (λ p found l is unlisted.
         ap (handle_in u) (place-gone d s o k u c n some p found is unlisted)
-        ∙ sym (ap (λ (f : Found). cond (view_in s 17 f).listed handle 0) found ∙ rw (shown-keeps (view_of s 17 p), unlisted)))
+        ∙ sym (ap (λ (f : Option ℕ). cond (view_in s 17 f).listed handle 0) found ∙ rw (shown-keeps (view_of s 17 p), unlisted)))
 
     handled-then : Handled u n (handle_then handle) entry
     handled-then =
@@ -224,7 +222,7 @@ module _ (d s : List ℕ) (o : Orderly d s) (k : ℕ) (u : List ℕ) (c : DropLe
           number = number-then;
           size = λ open-now.
               cases (entry_in u (place_of u n) ≡ entry)
-              (λ found. absurd (open-now (ap (λ (f : Found). cond (view_in s 17 f).listed handle 0) found)))
+              (λ found. absurd (open-now (ap (λ (f : Option ℕ). cond (view_in s 17 f).listed handle 0) found)))
               (λ p found l stays.
               let open-before : handle ≢ 0 = λ z. open-now (rw z (picked (λ (x : ℕ). x ≡ 0) (view_in s 17 tape).listed 0 0 (λ yes. refl) (λ none. refl))) in
               ap (entry_in u) (place-stays d s o k u c n some p found stays)
@@ -232,12 +230,12 @@ module _ (d s : List ℕ) (o : Orderly d s) (k : ℕ) (u : List ℕ) (c : DropLe
               ∙ sym (ap (entry_in s) found)
               ∙ its.size open-before)
               (λ p found l is unlisted.
-              absurd (open-now (ap (λ (f : Found). cond (view_in s 17 f).listed handle 0) found ∙ rw (shown-keeps (view_of s 17 p), unlisted))));
+              absurd (open-now (ap (λ (f : Option ℕ). cond (view_in s 17 f).listed handle 0) found ∙ rw (shown-keeps (view_of s 17 p), unlisted))));
         }
 
 -- ---- the laws
 
-module _ (d s : List ℕ) (o : Orderly d s) (k : ℕ) (found : find_transaction s k ≡ At 16) (kind : (transaction_of s 16).kind ≡ K.Append) where
+module _ (d s : List ℕ) (o : Orderly d s) (k : ℕ) (found : find_transaction s k ≡ Some 16) (kind : (transaction_of s 16).kind ≡ K.Append) where
   abbrev u : List ℕ
   u = (drop_transaction_call d s k).session
 

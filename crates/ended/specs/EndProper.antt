@@ -1,6 +1,6 @@
 -- A commit and a drop keep `Proper`: no directory is taken away, what a commit lists was listed, or is open and has its directory, and what a dropped append had
 -- named was not listed. Assumes nothing.
-use Rattle.std.specs.Prelude.{◌≡◌, ◌≢◌, Bool, true, false, cond, eqb}
+use Rattle.std.specs.Prelude.{◌≡◌, ◌≢◌, Bool, true, false, cond, eqb, Option, Some, None}
 use Rattle.std.proofs.Math.Path.{refl, ap}
 use Rattle.std.proofs.Common.{sym, ◌∙◌, true≢false, arith, eqb-true}
 use mathlib.Core.List.{List, []}
@@ -9,8 +9,6 @@ use Rattle.std.proofs.Math.ListN.{length}
 use Rattle.octets.specs.Cases.{decide, equal, picked}
 use Rattle.octets.specs.Only.{OnlyIn, only_none, only_then, only_wider}
 use Rattle.octets.specs.Sweep.{sweep, sweep-keeps}
-use Rattle.octets.specs.declared.Found.{Found}
-use Rattle.octets.specs.declared.Found.TheVariants.{At, Nothing}
 use Rattle.answers.specs.Answers.{code_of}
 use Rattle.layout.specs.Disk as D
 use Rattle.layout.specs.Names.{letters, name, put_name}
@@ -111,9 +109,9 @@ module _ (d s : List ℕ) (sound : D.Sound d) (j : ℕ) (low : j < 8) (u : List 
   unfolding reverted
   only-reverted = only_then 4168 5960 u (unstage j u) _ only-unstage (only_wider _ _ 4168 5960 (unstage j u) _ (omega arith) (omega arith) (only-put_ring (unstage j u) j _))
 
-  only-untrack : (x : List ℕ) (f : Found) → OnlyIn 4168 5960 x (untrack_in d x f)
-  only-untrack x (At place) = only_wider _ _ 4168 5960 x _ (omega arith) (omega arith) (only-retracked d x place UntrackAll sound.head.few)
-  only-untrack x Nothing = only_none 4168 5960 x
+  only-untrack : (x : List ℕ) (f : Option ℕ) → OnlyIn 4168 5960 x (untrack_in d x f)
+  only-untrack x (Some place) = only_wider _ _ 4168 5960 x _ (omega arith) (omega arith) (only-retracked d x place UntrackAll sound.head.few)
+  only-untrack x None = only_none 4168 5960 x
 
   -- all but the name
   abbrev unnamed : List ℕ

@@ -1,12 +1,10 @@
 -- The end of a writer goes over the tapes, one after the other: each step changes its own tape's row and the files of that tape's name. So the whole does
 -- this to each tape, and to no other files. Assumes nothing.
-use Rattle.std.specs.Prelude.{◌≡◌, refl, ◌≢◌, Bool, true, false, not, ◌&&◌, List, ℕ, ◌≤◌, ◌<◌, eqb}
+use Rattle.std.specs.Prelude.{◌≡◌, refl, ◌≢◌, Bool, true, false, not, ◌&&◌, List, ℕ, ◌≤◌, ◌<◌, eqb, Option, Some, None}
 use Rattle.std.proofs.Common.{sym, ap, ◌∙◌, true≢false, arith}
 use Rattle.octets.specs.Cases.{equal}
 use Rattle.octets.specs.Only.{OnlyIn}
 use Rattle.octets.specs.Sweep.{sweep, sweep-keeps, Rowwise, sweep-row}
-use Rattle.octets.specs.declared.Found.{Found}
-use Rattle.octets.specs.declared.Found.TheVariants.{At, Nothing}
 use Rattle.layout.specs.Disk.{directories}
 use Rattle.layout.specs.Names.{name, find_name}
 use Rattle.layout.specs.NamesLaws.{name-only}
@@ -90,28 +88,28 @@ module _ (t v : List ℕ) (i : ℕ) (r : RingBuffer) (bytes : List ℕ) (st : St
 -- ---- files by a tape's name
 
 -- they are those of its directory
-pub files-found : (d t wanted : List ℕ) (place : ℕ) → find_name d directories wanted ≡ At place → files_for d t wanted ≡ files_at (areas d t) place
+pub files-found : (d t wanted : List ℕ) (place : ℕ) → find_name d directories wanted ≡ Some place → files_for d t wanted ≡ files_at (areas d t) place
 files-found d t wanted place found = ap (files_in d t) found
 
 -- where the tracking is the same
 pub files-tracking : (d t v : List ℕ) → (session_of v).tracking ≡ (session_of t).tracking → (n : List ℕ) → files_for d v n ≡ files_for d t n
 files-tracking d t v same n = by (find_name d directories n)
   where
-    by : (found : Found) → files_in d v found ≡ files_in d t found
-    by (At q) = ap (λ (f : ℕ → Tracking). files_of (disk_of d) f q) same
-    by Nothing = refl
+    by : (found : Option ℕ) → files_in d v found ≡ files_in d t found
+    by (Some q) = ap (λ (f : ℕ → Tracking). files_of (disk_of d) f q) same
+    by None = refl
 
 -- where those of one directory changed
-pub files-apart : (d t v wanted : List ℕ) (place : ℕ) → find_name d directories wanted ≡ At place → ((q : ℕ) → q ≢ place → files_at (areas d v) q ≡ files_at (areas d t) q)
+pub files-apart : (d t v wanted : List ℕ) (place : ℕ) → find_name d directories wanted ≡ Some place → ((q : ℕ) → q ≢ place → files_at (areas d v) q ≡ files_at (areas d t) q)
     → (n : List ℕ) → wanted ≢ n → files_for d v n ≡ files_for d t n
 files-apart d t v wanted place found other n apart = by (find_name d directories n) refl
   where
-    by : (f : Found) → find_name d directories n ≡ f → files_in d v f ≡ files_in d t f
-    by (At q) e =
+    by : (f : Option ℕ) → find_name d directories n ≡ f → files_in d v f ≡ files_in d t f
+    by (Some q) e =
         other q
         (λ (same : q ≡ place).
         apart (sym (found_name d directories wanted place found) ∙ ap (name d directories) (sym same) ∙ found_name d directories n q e))
-    by Nothing e = refl
+    by None e = refl
 
 -- ---- touched tapes
 

@@ -1,13 +1,11 @@
 -- What the files lack of each tape that an append touched goes to that tape's own directory, one tape after the other. Where there is room for all of it
 -- before (rule 15), there is room for the rest after each, so every directory gets what its tape's `flush` says, and no other directory anything. Assumes
 -- nothing.
-use Rattle.std.specs.Prelude.{◌≡◌, ◌≢◌, true, false, List, ℕ, ◌+◌, ◌-◌, ◌≤◌, ◌<◌}
+use Rattle.std.specs.Prelude.{◌≡◌, ◌≢◌, true, false, List, ℕ, ◌+◌, ◌-◌, ◌≤◌, ◌<◌, Option, Some, None}
 use Rattle.std.proofs.Math.Path.{refl}
 use Rattle.std.proofs.Common.{sym, ap, ◌∙◌, arith}
 use borrow.Author.Tests.{ne_eqb, ltb-false}
 use Rattle.octets.specs.Cases.{decide}
-use Rattle.octets.specs.declared.Found.{Found}
-use Rattle.octets.specs.declared.Found.TheVariants.{At, Nothing}
 use Rattle.components.specs.Pieces.{file_of}
 use Rattle.components.specs.PiecesLaws.{file-mono}
 use Rattle.components.specs.Files.{Files}
@@ -69,7 +67,7 @@ abbrev pub Inside : List ℕ → Type 0
 Inside s = (p : ℕ) → p < 8 → is_touched s p ≡ true → (staged_of s p).unwritten ≤ (staged_of s p).len
 
 module _ (a : Areas) (start : Step.Whole a) (apart : PlacesApart a.disk a.session) (inside : Inside a.session) where
-  abbrev owner : ℕ → Found
+  abbrev owner : ℕ → Option ℕ
   owner p = touched_place a.disk a.session p
 
   module _ (p : ℕ) (low : p < 8) (b : Areas) (at : Flushing a p b) where
@@ -79,11 +77,11 @@ module _ (a : Areas) (start : Step.Whole a) (apart : PlacesApart a.disk a.sessio
     same_size : file_size_of b.session p ≡ file_size_of a.session p
     same_size = file_size_of-kept a.session b.session at.kept.only p low
 
-    turn-none : owner p ≡ Nothing → flush_tape p b ≡ b
+    turn-none : owner p ≡ None → flush_tape p b ≡ b
     unfolding flush_tape
     turn-none = turn-nowhere a b start at.kept p low (flush_in b p) refl
 
-    module _ (place : ℕ) (e : owner p ≡ At place) where
+    module _ (place : ℕ) (e : owner p ≡ Some place) where
       abbrev row : Staged
       row = staged_of a.session p
 
@@ -96,7 +94,7 @@ module _ (a : Areas) (start : Step.Whole a) (apart : PlacesApart a.disk a.sessio
       also-touched : is_touched b.session p ≡ true
       also-touched = touched-kept a b start at.kept p low ∙ touched
 
-      found : directory_of a.disk a.session p ≡ At place
+      found : directory_of a.disk a.session p ≡ Some place
       found = place-directory a.disk a.session p place e
 
       same_row : staged_of b.session p ≡ row
@@ -176,14 +174,14 @@ module _ (a : Areas) (start : Step.Whole a) (apart : PlacesApart a.disk a.sessio
           ∙ sym (lacking-touched b.disk a.session q m t))
           (λ t. lacking-untouched (flushed b place p row).disk a.session q m t ∙ sym (lacking-untouched b.disk a.session q m t))
         where
-          by : is_touched a.session q ≡ true → (f : Found) → directory_of a.disk a.session q ≡ f
+          by : is_touched a.session q ≡ true → (f : Option ℕ) → directory_of a.disk a.session q ≡ f
               → lacking_in (flushed b place p row).disk (file_size_of a.session q) (low_of (staged_of a.session q)) (end_of (staged_of a.session q) 0) f
               ≡ lacking_in b.disk (file_size_of a.session q) (low_of (staged_of a.session q)) (end_of (staged_of a.session q) 0) f
-          by t (At other) there =
-              let its : owner q ≡ At other = touched-place a.disk a.session q t ∙ there in
-              let away : other ≢ place = λ same. let z : p ≡ q = apart p q place low m e (its ∙ ap At same) in omega arith in
+          by t (Some other) there =
+              let its : owner q ≡ Some other = touched-place a.disk a.session q t ∙ there in
+              let away : other ≢ place = λ same. let z : p ≡ q = apart p q place low m e (its ∙ ap Some same) in omega arith in
               lacking-same (on_disk b.disk other) (on_disk (flushed b place p row).disk other) _ _ (λ j _ _. changed.there other away j)
-          by t Nothing there = refl
+          by t None there = refl
 
       flushing-at : Flushing a (p + 1) (flushed b place p row)
       flushing-at =
@@ -223,14 +221,14 @@ module _ (a : Areas) (start : Step.Whole a) (apart : PlacesApart a.disk a.sessio
         other = λ p b low at q away. by-other p b low at q away (owner p) refl;
       }
     where
-      by-keeps : (p : ℕ) (b : Areas) → p < 8 → Flushing a p b → (f : Found) → owner p ≡ f → Flushing a (p + 1) (flush_tape p b)
-      by-keeps p b low at (At place) e = rw (turn_at p low b at place e) (flushing-at p low b at place e)
-      by-keeps p b low at Nothing e = rw (turn-none p low b at e) (flushing-none p low b at)
+      by-keeps : (p : ℕ) (b : Areas) → p < 8 → Flushing a p b → (f : Option ℕ) → owner p ≡ f → Flushing a (p + 1) (flush_tape p b)
+      by-keeps p b low at (Some place) e = rw (turn_at p low b at place e) (flushing-at p low b at place e)
+      by-keeps p b low at None e = rw (turn-none p low b at e) (flushing-none p low b at)
 
-      by-other : (p : ℕ) (b : Areas) → p < 8 → Flushing a p b → (q : ℕ) → (owner p ≡ At q → ⊥) → (f : Found) → owner p ≡ f → files_at (flush_tape p b) q ≡ files_at b q
-      by-other p b low at q away (At place) e =
-          ap (λ (x : Areas). files_at x q) (turn_at p low b at place e) ∙ (changed p low b at place e).other q (λ same. away (e ∙ ap At (sym same)))
-      by-other p b low at q away Nothing e = ap (λ (x : Areas). files_at x q) (turn-none p low b at e)
+      by-other : (p : ℕ) (b : Areas) → p < 8 → Flushing a p b → (q : ℕ) → (owner p ≡ Some q → ⊥) → (f : Option ℕ) → owner p ≡ f → files_at (flush_tape p b) q ≡ files_at b q
+      by-other p b low at q away (Some place) e =
+          ap (λ (x : Areas). files_at x q) (turn_at p low b at place e) ∙ (changed p low b at place e).other q (λ same. away (e ∙ ap Some (sym same)))
+      by-other p b low at q away None e = ap (λ (x : Areas). files_at x q) (turn-none p low b at e)
 
   module _ (once : Once a.disk) (room : no_room a.disk a.session 8 0 ≡ false) where
     first : Flushing a 0 a
@@ -238,12 +236,12 @@ module _ (a : Areas) (start : Step.Whole a) (apart : PlacesApart a.disk a.sessio
     first = record { kept = kept-none a start; once = once; room = ltb-false (slots a.disk) (files a.disk + lacking_all a.disk a.session 8 0 8 0) room }
 
     -- a touched tape's directory has what its files lacked
-    pub flushed-own : (p place : ℕ) → p < 8 → touched_place a.disk a.session p ≡ At place
+    pub flushed-own : (p place : ℕ) → p < 8 → touched_place a.disk a.session p ≡ Some place
         → files_at (flush_all a) place ≡ flush (file_size_of a.session p) (staged_of a.session p).len (held_at a place p (staged_of a.session p).unwritten)
     flushed-own p place low e = turns-own owner change flush_tape (Flushing a) turns 8 0 a (omega arith) first p place (omega arith) (omega arith) e
 
     -- and no other directory has anything else than before
-    pub flushed-other : (q : ℕ) → ((p : ℕ) → p < 8 → touched_place a.disk a.session p ≡ At q → ⊥) → files_at (flush_all a) q ≡ files_at a q
+    pub flushed-other : (q : ℕ) → ((p : ℕ) → p < 8 → touched_place a.disk a.session p ≡ Some q → ⊥) → files_at (flush_all a) q ≡ files_at a q
     flushed-other q none = turns-other owner change flush_tape (Flushing a) turns 8 0 a (omega arith) first q (λ p l m. none p (omega arith))
 
     pub flushed-once : Once (flush_all a).disk

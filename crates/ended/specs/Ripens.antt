@@ -1,10 +1,8 @@
 -- Marks and removal after an append's commit, of each tape that it touched, in that tape's own directory; no other directory's files change. Assumes
 -- nothing.
-use Rattle.std.specs.Prelude.{◌≡◌, ℕ, ◌<◌, ◌^◌}
+use Rattle.std.specs.Prelude.{◌≡◌, ℕ, ◌<◌, ◌^◌, Option, Some, None}
 use Rattle.std.proofs.Math.Path.{refl}
 use Rattle.std.proofs.Common.{sym, ap, ◌∙◌, arith}
-use Rattle.octets.specs.declared.Found.{Found}
-use Rattle.octets.specs.declared.Found.TheVariants.{At, Nothing}
 use Rattle.components.specs.Pieces.{file_of}
 use Rattle.components.specs.Files.{Files, mark_below, remove}
 use Rattle.layout.specs.Session.{file_size_of}
@@ -26,7 +24,7 @@ record Ripening (a : Areas) (p : ℕ) (b : Areas) : Type 0 where
   once : Once b.disk
 
 module _ (a : Areas) (start : Whole a) (apart : PlacesApart a.disk a.session) (began oldest : ℕ) (fits : began < 2 ^ 64) where
-  abbrev owner : ℕ → Found
+  abbrev owner : ℕ → Option ℕ
   owner p = touched_place a.disk a.session p
 
   -- the file of the tape's start
@@ -47,11 +45,11 @@ module _ (a : Areas) (start : Whole a) (apart : PlacesApart a.disk a.session) (b
         ap (λ (n : ℕ). file_of n (view_of b.session 17 p).start) (file_size_of-kept a.session b.session at.kept.only p low)
         ∙ ap (λ (v : View). file_of (file_size_of a.session p) v.start) (view-only 4936 5960 a.session b.session at.kept.only 17 p (λ q. omega arith))
 
-    turn-none : owner p ≡ Nothing → ripen_tape began oldest p b ≡ b
+    turn-none : owner p ≡ None → ripen_tape began oldest p b ≡ b
     unfolding ripen_tape
     turn-none = turn-nowhere a b start at.kept p low (ripen_in b began oldest p) refl
 
-    module _ (place : ℕ) (e : owner p ≡ At place) where
+    module _ (place : ℕ) (e : owner p ≡ Some place) where
       turn_at : ripen_tape began oldest p b ≡ ripened_at b began oldest p place
       unfolding ripen_tape
       turn_at = rw (touched-kept a b start at.kept p low ∙ place-touched a.disk a.session p place e, directory-kept a b start at.kept p low ∙ place-directory a.disk a.session p place e)
@@ -62,16 +60,16 @@ module _ (a : Areas) (start : Whole a) (apart : PlacesApart a.disk a.session) (b
     once-turn : Once (ripen_tape began oldest p b).disk
     once-turn = by (owner p) refl
       where
-        by : (f : Found) → owner p ≡ f → Once (ripen_tape began oldest p b).disk
-        by (At place) e = (changed place e).once
-        by Nothing e = rw (turn-none e) at.once
+        by : (f : Option ℕ) → owner p ≡ f → Once (ripen_tape began oldest p b).disk
+        by (Some place) e = (changed place e).once
+        by None e = rw (turn-none e) at.once
 
-    other-turn : (q : ℕ) → (owner p ≡ At q → ⊥) → files_at (ripen_tape began oldest p b) q ≡ files_at b q
+    other-turn : (q : ℕ) → (owner p ≡ Some q → ⊥) → files_at (ripen_tape began oldest p b) q ≡ files_at b q
     other-turn q away = by (owner p) refl
       where
-        by : (f : Found) → owner p ≡ f → files_at (ripen_tape began oldest p b) q ≡ files_at b q
-        by (At place) e = (changed place e).other q (λ same. away (e ∙ ap At (sym same)))
-        by Nothing e = ap (λ (x : Areas). files_at x q) (turn-none e)
+        by : (f : Option ℕ) → owner p ≡ f → files_at (ripen_tape began oldest p b) q ≡ files_at b q
+        by (Some place) e = (changed place e).other q (λ same. away (e ∙ ap Some (sym same)))
+        by None e = ap (λ (x : Areas). files_at x q) (turn-none e)
 
   -- ---- all tapes
 
@@ -92,11 +90,11 @@ module _ (a : Areas) (start : Whole a) (apart : PlacesApart a.disk a.session) (b
     first : Ripening a 0 a
     first = record { kept = kept-none a start; once = once }
 
-    pub ripened-own : (p place : ℕ) → p < 8 → touched_place a.disk a.session p ≡ At place
+    pub ripened-own : (p place : ℕ) → p < 8 → touched_place a.disk a.session p ≡ Some place
         → files_at (ripen_all began oldest a) place ≡ remove oldest (mark_below (file_of (file_size_of a.session p) (view_of a.session 17 p).start) began (files_at a place))
     ripened-own p place low e = turns-own owner change (ripen_tape began oldest) (Ripening a) turns 8 0 a (omega arith) first p place (omega arith) (omega arith) e
 
-    pub ripened-other : (q : ℕ) → ((p : ℕ) → p < 8 → touched_place a.disk a.session p ≡ At q → ⊥) → files_at (ripen_all began oldest a) q ≡ files_at a q
+    pub ripened-other : (q : ℕ) → ((p : ℕ) → p < 8 → touched_place a.disk a.session p ≡ Some q → ⊥) → files_at (ripen_all began oldest a) q ≡ files_at a q
     ripened-other q none = turns-other owner change (ripen_tape began oldest) (Ripening a) turns 8 0 a (omega arith) first q (λ p l m. none p (omega arith))
 
     pub ripened-once : Once (ripen_all began oldest a).disk

@@ -1,9 +1,8 @@
 -- Whether a commit is refused. "Commit: 18"; of damaged or mismatched areas alone "16 for a missing directory, after 18". A list that may not be stored,
 -- which damaged memory alone has, is 1: no commit writes what no store would read. Assumes nothing.
-use Rattle.std.specs.Prelude.{Bool, cond, not, ◌&&◌, ◌||◌, List, ℕ, ◌+◌, eqb}
+use Rattle.std.specs.Prelude.{Bool, cond, not, ◌&&◌, ◌||◌, List, ℕ, ◌+◌, eqb, Ok, Err}
 use Rattle.octets.specs.First.{all, count}
-use Rattle.answers.specs.declared.Answer.{Answer}
-use Rattle.answers.specs.declared.Answer.TheVariants.{Done, Refused}
+use Rattle.answers.specs.Answers.{Answer}
 use Rattle.answers.specs.declared.Refusal.TheVariants.{Unusable, Missing, TooLarge}
 use Rattle.metadata.specs.declared.list.TapeList.{TapeList}
 use Rattle.metadata.specs.Struct.{storable}
@@ -29,5 +28,5 @@ is_whole s cut list = eqb list.count (count (is_published s cut) 8 0)
 unfoldable pub may_commit : List ℕ → List ℕ → Bool → TapeList → Answer
 may_commit d s cut list =
     cond (is_whole s cut list && storable list)
-    (cond (eqb (head_of s).epoch 0xffff_ffff_ffff_ffff) (Refused TooLarge) (cond (all_there d s) (Done ((head_of s).epoch + 1)) (Refused Missing)))
-    (Refused Unusable)
+    (cond (eqb (head_of s).epoch 0xffff_ffff_ffff_ffff) (Err TooLarge) (cond (all_there d s) (Ok ((head_of s).epoch + 1)) (Err Missing)))
+    (Err Unusable)

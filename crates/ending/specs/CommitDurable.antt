@@ -2,15 +2,13 @@
 -- is the other one. The session's epoch is not below that of the file that it does not write next: so `store` leaves it, and so each commit does, since
 -- that file is then the one that it wrote. Assumes nothing.
 use Prim.{tt}
-use Rattle.std.specs.Prelude.{◌≡◌, refl, Bool, true, length, drop, replicate}
+use Rattle.std.specs.Prelude.{◌≡◌, refl, Bool, true, length, drop, replicate, Option, Some, None}
 use Rattle.std.proofs.Common.{ap, ◌∙◌, arith, length-append}
 use mathlib.Core.List.{List, [], ◌∷◌, ◌++◌}
 use Prim.Native.Nat.{ℕ, zero, suc, ◌+◌, ◌-◌, ◌≤◌, ◌<◌, ◌^◌}
 use Rattle.std.proofs.lemmas.List.{length-replicate}
 use Rattle.octets.specs.Bytes.{put_front}
 use Rattle.octets.specs.Number.{Bytes}
-use Rattle.octets.specs.declared.Found.{Found}
-use Rattle.octets.specs.declared.Found.TheVariants.{At, Nothing}
 use Rattle.answers.specs.Answers.{code_of}
 use Rattle.components.specs.FileBytes.{written}
 use Rattle.metadata.specs.declared.choice.Side.{Side}
@@ -46,9 +44,9 @@ module _ (s : List ℕ) (bytes : Bytes s) (cut : Bool) where
   sizes-behind zero before = tt
   sizes-behind (suc k) before = by (next_behind s cut before) (sizes-behind k)
     where
-      by : (f : Found) → ((last : List ℕ) → Sizes (list_behind s cut k last)) → Sizes (with_next s cut (list_behind s cut k) f)
-      by (At p) rest = (len-fits p, rest (name s names_at p))
-      by Nothing rest = tt
+      by : (f : Option ℕ) → ((last : List ℕ) → Sizes (list_behind s cut k last)) → Sizes (with_next s cut (list_behind s cut k) f)
+      by (Some p) rest = (len-fits p, rest (name s names_at p))
+      by None rest = tt
 
 -- ---- bytes written to the front of a file stand there
 

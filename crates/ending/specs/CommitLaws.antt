@@ -1,6 +1,6 @@
 -- Laws of a commit: the contract leaves nothing open, a refused commit changes nothing, both areas keep their rules, lengths and bytes, and a commit
 -- that is served raises the epoch by 1, answers it, and closes the writer's place. Assumes nothing.
-use Rattle.std.specs.Prelude.{◌≡◌, ◌≢◌, Bool, List, ℕ, ◌+◌, ◌<◌, ◌^◌, length}
+use Rattle.std.specs.Prelude.{◌≡◌, ◌≢◌, Bool, List, ℕ, ◌+◌, ◌<◌, ◌^◌, length, Ok, Err}
 use Rattle.std.proofs.Math.Path.{refl, ap}
 use Rattle.std.proofs.Common.{sym, ◌∙◌, arith}
 use Rattle.std.proofs.Math.Bool.{true, false}
@@ -9,8 +9,7 @@ use Rattle.octets.specs.Number.{Bytes}
 use Rattle.octets.specs.Only.{OnlyIn, only_then, only_wider}
 use Rattle.answers.specs.Answers.{code_of}
 use Rattle.answers.specs.Outcome.{Outcome, outcome, refused_at, Unchanged}
-use Rattle.answers.specs.declared.Answer.{Answer}
-use Rattle.answers.specs.declared.Answer.TheVariants.{Done, Refused}
+use Rattle.answers.specs.Answers.{Answer}
 use Rattle.answers.specs.declared.Refusal.{Refusal}
 use Rattle.answers.specs.declared.Refusal.TheVariants.{Unusable, Unknown, NoSlot}
 use Rattle.metadata.specs.declared.list.TapeList.{TapeList}
@@ -101,7 +100,7 @@ pub record Committed (d s : List ℕ) (o : Outcome) : Type 0 where
   pub long-session : length o.session ≡ length s
   pub bytes-session : Bytes o.session
   pub bytes-disk : Bytes d → Bytes o.disk
-  pub answer : o.answer ≡ Done ((head_of s).epoch + 1)
+  pub answer : o.answer ≡ Ok ((head_of s).epoch + 1)
   pub epoch : (head_of o.session).epoch ≡ (head_of s).epoch + 1
   pub shut : transaction_of o.session 16 ≡ closed
 
@@ -181,16 +180,16 @@ module _ (P : Outcome → Type 0) (d s : List ℕ) (no : (why : Refusal) → P (
   append_cases goes = by (may_commit d s false (the_list s false)) refl
     where
       by : (a : Answer) → may_commit d s false (the_list s false) ≡ a → P (appended_if d s (the_list s false) a)
-      by (Done v) e = picked P (no_room d s 8 0) _ _ (λ full. no NoSlot) (λ room. goes v (may-done d s false _ v e) room)
-      by (Refused why) e = no why
+      by (Ok v) e = picked P (no_room d s 8 0) _ _ (λ full. no NoSlot) (λ room. goes v (may-done d s false _ v e) room)
+      by (Err why) e = no why
 
   truncate-cases : ((v : ℕ) → Storing d s true (the_list s true) v → P (truncated_by d s (the_list s true))) → P (commit_truncate d s)
   unfolding commit_truncate
   truncate-cases goes = by (may_commit d s true (the_list s true)) refl
     where
       by : (a : Answer) → may_commit d s true (the_list s true) ≡ a → P (truncated_if d s (the_list s true) a)
-      by (Done v) e = goes v (may-done d s true _ v e)
-      by (Refused why) e = no why
+      by (Ok v) e = goes v (may-done d s true _ v e)
+      by (Err why) e = no why
 
   pub commit-cases : (t : ℕ) → (usable d s ≡ true → writes s t ≡ true → (v : ℕ) → Storing d s false (the_list s false) v → no_room d s 8 0 ≡ false → P (appended d s (the_list s false)))
       → (usable d s ≡ true → cuts s t ≡ true → (v : ℕ) → Storing d s true (the_list s true) v → P (truncated_by d s (the_list s true)))
@@ -236,7 +235,7 @@ module _ (d s : List ℕ) (bytes : Bytes s) (t : ℕ) where
 
   -- "Every commit raises the epoch by 1", and answers it
   pub commit-epoch : code_of (commit_call d s t).answer ≡ 0
-      → ((commit_call d s t).answer ≡ Done ((head_of s).epoch + 1)) × ((head_of (commit_call d s t).session).epoch ≡ (head_of s).epoch + 1)
+      → ((commit_call d s t).answer ≡ Ok ((head_of s).epoch + 1)) × ((head_of (commit_call d s t).session).epoch ≡ (head_of s).epoch + 1)
   commit-epoch e = let c = commit-served e in (c.answer, c.epoch)
 
   -- areas that are usable stay so

@@ -1,13 +1,12 @@
 -- A law for each way out of a commit, and what a commit that is not refused has found. Assumes nothing.
-use Rattle.std.specs.Prelude.{◌≡◌, ◌≢◌, Bool, ◌&&◌, List, ℕ, ◌+◌, ◌<◌, ◌^◌, eqb}
+use Rattle.std.specs.Prelude.{◌≡◌, ◌≢◌, Bool, ◌&&◌, List, ℕ, ◌+◌, ◌<◌, ◌^◌, eqb, Ok, Err}
 use Rattle.std.proofs.Common.{sym, arith}
 use Rattle.std.proofs.Math.Bool.{true, false}
 use Rattle.std.proofs.lemmas.Bool.{eqb-false}
 use Rattle.octets.specs.Cases.{picked, and_l, and_r}
 use Rattle.octets.specs.Number.{Bytes, num_at-lt}
 use Rattle.answers.specs.Outcome.{outcome, refused_at}
-use Rattle.answers.specs.declared.Answer.{Answer}
-use Rattle.answers.specs.declared.Answer.TheVariants.{Done, Refused}
+use Rattle.answers.specs.Answers.{Answer}
 use Rattle.answers.specs.declared.Refusal.{Refusal}
 use Rattle.answers.specs.declared.Refusal.TheVariants.{Unusable, Unknown, NoSlot}
 use Rattle.metadata.specs.declared.list.TapeList.{TapeList}
@@ -31,19 +30,19 @@ pub record Storing (d s : List ℕ) (cut : Bool) (list : TapeList) (v : ℕ) : T
   pub there : all_there d s ≡ true
   pub epoch : v ≡ (head_of s).epoch + 1
 
-no_answer : {why : Refusal} {v : ℕ} → Refused why ≡ Done v → ⊥
+no_answer : {why : Refusal} {v : ℕ} → Err why ≡ Ok v → ⊥
 no_answer e = let z : ◌≡◌ {A = ℕ} 0 1 = cc in omega arith
 
-pub may-done : (d s : List ℕ) (cut : Bool) (list : TapeList) (v : ℕ) → may_commit d s cut list ≡ Done v → Storing d s cut list v
+pub may-done : (d s : List ℕ) (cut : Bool) (list : TapeList) (v : ℕ) → may_commit d s cut list ≡ Ok v → Storing d s cut list v
 unfolding may_commit
 may-done d s cut list v =
-    let P : Answer → Type 0 = λ a. a ≡ Done v → Storing d s cut list v in
+    let P : Answer → Type 0 = λ a. a ≡ Ok v → Storing d s cut list v in
     picked P (is_whole s cut list && storable list) _ _
     (λ ok.
     picked P (eqb (head_of s).epoch 0xffff_ffff_ffff_ffff) _ _ (λ last e. absurd (no_answer e))
     (λ more.
     picked P (all_there d s) _ _
-    (λ there (e : Done ((head_of s).epoch + 1) ≡ Done v).
+    (λ there (e : Ok ((head_of s).epoch + 1) ≡ Ok v).
     let same : (head_of s).epoch + 1 ≡ v = cc in
     record {
       whole = and_l (is_whole s cut list) (storable list) ok;
@@ -63,11 +62,11 @@ epoch-fits s bytes more = omega (arith, num_at-lt 8 s 8 bytes, more)
 -- ---- an append
 
 module _ (d s : List ℕ) (list : TapeList) (is : list ≡ list_of (next_list s false)) where
-  pub append-refused : (why : Refusal) → may_commit d s false list ≡ Refused why → commit_append d s ≡ refused_at why d s
+  pub append-refused : (why : Refusal) → may_commit d s false list ≡ Err why → commit_append d s ≡ refused_at why d s
   unfolding commit_append
   append-refused why e = rw (← is, e)
 
-  module _ (v : ℕ) (e : may_commit d s false list ≡ Done v) where
+  module _ (v : ℕ) (e : may_commit d s false list ≡ Ok v) where
     pub append-full : no_room d s 8 0 ≡ true → commit_append d s ≡ refused_at NoSlot d s
     unfolding commit_append
     append-full full = rw (← is, e, full)
@@ -77,24 +76,24 @@ module _ (d s : List ℕ) (list : TapeList) (is : list ≡ list_of (next_list s 
     append-served room = rw (← is, e, room)
 
     -- what the two steps leave
-    pub append-made : (t u v' : List ℕ) → ripened_append d s list ≡ areas t u → v' ≡ close_writer u → appended d s list ≡ outcome (Done v) t v'
+    pub append-made : (t u v' : List ℕ) → ripened_append d s list ≡ areas t u → v' ≡ close_writer u → appended d s list ≡ outcome (Ok v) t v'
     unfolding appended
     append-made t u v' ripened closed = rw ((may-done d s false list v e).epoch, ripened, closed)
 
 -- ---- a truncate
 
 module _ (d s : List ℕ) (list : TapeList) (is : list ≡ list_of (next_list s true)) where
-  pub truncate-refused : (why : Refusal) → may_commit d s true list ≡ Refused why → commit_truncate d s ≡ refused_at why d s
+  pub truncate-refused : (why : Refusal) → may_commit d s true list ≡ Err why → commit_truncate d s ≡ refused_at why d s
   unfolding commit_truncate
   truncate-refused why e = rw (← is, e)
 
-  module _ (v : ℕ) (e : may_commit d s true list ≡ Done v) where
+  module _ (v : ℕ) (e : may_commit d s true list ≡ Ok v) where
     pub truncate-served : commit_truncate d s ≡ truncated_by d s list
     unfolding commit_truncate
     truncate-served = rw (← is, e)
 
     -- what the three steps leave
-    pub truncate-made : (t u w x : List ℕ) → stored d s true list ≡ areas t u → w ≡ cut_all t u → x ≡ close_writer w → truncated_by d s list ≡ outcome (Done v) t x
+    pub truncate-made : (t u w x : List ℕ) → stored d s true list ≡ areas t u → w ≡ cut_all t u → x ≡ close_writer w → truncated_by d s list ≡ outcome (Ok v) t x
     unfolding truncated_by
     truncate-made t u w x store cut closed = rw ((may-done d s true list v e).epoch, store, closed, cut)
 

@@ -1,8 +1,7 @@
 -- A commit: what `Checking.antt` refuses, "and 15 last"; then data, list, record, removal. Assumes nothing.
-use Rattle.std.specs.Prelude.{Bool, true, false, cond, List, ℕ, ◌+◌}
+use Rattle.std.specs.Prelude.{Bool, true, false, cond, List, ℕ, ◌+◌, Ok, Err}
 use Rattle.answers.specs.Outcome.{Outcome, outcome, refused_at}
-use Rattle.answers.specs.declared.Answer.{Answer}
-use Rattle.answers.specs.declared.Answer.TheVariants.{Done, Refused}
+use Rattle.answers.specs.Answers.{Answer}
 use Rattle.answers.specs.declared.Refusal.TheVariants.{Unusable, Unknown, NoSlot}
 use Rattle.metadata.specs.declared.list.TapeList.{TapeList}
 use Rattle.metadata.specs.Struct.{list_of}
@@ -33,11 +32,11 @@ ripened_append d s list = ripen_all (transaction_of s 16).epoch (oldest_of s) (s
 
 unfoldable pub appended : List ℕ → List ℕ → TapeList → Outcome
 appended d s list =
-    outcome (Done ((head_of s).epoch + 1)) (ripened_append d s list).disk (close_writer (ripened_append d s list).session)
+    outcome (Ok ((head_of s).epoch + 1)) (ripened_append d s list).disk (close_writer (ripened_append d s list).session)
 
 abbrev pub appended_if : List ℕ → List ℕ → TapeList → Answer → Outcome
-appended_if d s list (Done v) = cond (no_room d s 8 0) (refused_at NoSlot d s) (appended d s list)
-appended_if d s list (Refused why) = refused_at why d s
+appended_if d s list (Ok v) = cond (no_room d s 8 0) (refused_at NoSlot d s) (appended d s list)
+appended_if d s list (Err why) = refused_at why d s
 
 unfoldable pub commit_append : List ℕ → List ℕ → Outcome
 commit_append d s = appended_if d s (list_of (next_list s false)) (may_commit d s false (list_of (next_list s false)))
@@ -46,12 +45,12 @@ commit_append d s = appended_if d s (list_of (next_list s false)) (may_commit d 
 
 unfoldable pub truncated_by : List ℕ → List ℕ → TapeList → Outcome
 truncated_by d s list =
-    outcome (Done ((head_of s).epoch + 1)) (stored d s true list).disk
+    outcome (Ok ((head_of s).epoch + 1)) (stored d s true list).disk
     (close_writer (cut_all (stored d s true list).disk (stored d s true list).session))
 
 abbrev pub truncated_if : List ℕ → List ℕ → TapeList → Answer → Outcome
-truncated_if d s list (Done v) = truncated_by d s list
-truncated_if d s list (Refused why) = refused_at why d s
+truncated_if d s list (Ok v) = truncated_by d s list
+truncated_if d s list (Err why) = refused_at why d s
 
 unfoldable pub commit_truncate : List ℕ → List ℕ → Outcome
 commit_truncate d s = truncated_if d s (list_of (next_list s true)) (may_commit d s true (list_of (next_list s true)))

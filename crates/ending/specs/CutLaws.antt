@@ -1,6 +1,6 @@
 -- Laws of what a truncate does to its tapes, and of closing the writer's place: where they write, that the session stays begun, and bytes stay bytes.
 -- Assumes nothing.
-use Rattle.std.specs.Prelude.{◌≡◌, refl, ℕ, ◌≤◌, ◌<◌}
+use Rattle.std.specs.Prelude.{◌≡◌, refl, ℕ, ◌≤◌, ◌<◌, Option, Some, None}
 use Rattle.std.proofs.Common.{◌∙◌}
 use mathlib.Core.List.{List}
 use native.Mathlib.Omega.{arith}
@@ -9,8 +9,6 @@ use Rattle.octets.specs.Cases.{picked}
 use Rattle.octets.specs.Number.{Bytes}
 use Rattle.octets.specs.Only.{OnlyIn, only_none, only_then, only_wider}
 use Rattle.octets.specs.Sweep.{sweep, sweep-keeps}
-use Rattle.octets.specs.declared.Found.{Found}
-use Rattle.octets.specs.declared.Found.TheVariants.{At, Nothing}
 use Rattle.layout.specs.Disk.{slots}
 use Rattle.layout.specs.Session.{session_bytes, file_size_of, Begun}
 use Rattle.ring_buffer.specs.Ring.{truncated}
@@ -87,9 +85,9 @@ module _ (d : List ℕ) (few : slots d ≤ 64) (p : ℕ) (s : List ℕ) (low : p
       (λ e. by (directory_of d s p))
       (λ e. none)
     where
-      by : (f : Found) → P (clear_in d (cut_ring p s) (file_size_of s p) (staged_of s p).len f)
-      by (At place) = clear place _
-      by Nothing = cut
+      by : (f : Option ℕ) → P (clear_in d (cut_ring p s) (file_size_of s p) (staged_of s p).len f)
+      by (Some place) = clear place _
+      by None = cut
 
   pub only-cut_tape : OnlyIn 4168 5960 s (cut_tape d p s)
   only-cut_tape =

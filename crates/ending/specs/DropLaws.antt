@@ -1,6 +1,6 @@
 -- Laws of a drop: lengths and the layout rule are kept, bytes stay bytes, the contract leaves nothing open, and a refused call changes nothing. Assumes
 -- nothing.
-use Rattle.std.specs.Prelude.{◌≡◌, refl, ◌≢◌, true, false, ℕ, ◌+◌, ◌-◌, ◌≤◌, ◌<◌, eqb}
+use Rattle.std.specs.Prelude.{◌≡◌, refl, ◌≢◌, true, false, ℕ, ◌+◌, ◌-◌, ◌≤◌, ◌<◌, eqb, Option, Some, None, Ok}
 use Rattle.std.proofs.Common.{sym, ◌∙◌}
 use mathlib.Core.List.{List, []}
 use native.Mathlib.Omega.{arith}
@@ -9,11 +9,8 @@ use Rattle.octets.specs.Cases.{picked}
 use Rattle.octets.specs.Number.{Bytes}
 use Rattle.octets.specs.Sweep.{sweep, sweep-keeps}
 use Rattle.octets.specs.Words.{word_at}
-use Rattle.octets.specs.declared.Found.{Found}
-use Rattle.octets.specs.declared.Found.TheVariants.{At, Nothing}
 use Rattle.answers.specs.Answers.{code_of}
-use Rattle.answers.specs.declared.Answer.{Answer}
-use Rattle.answers.specs.declared.Answer.TheVariants.{Done}
+use Rattle.answers.specs.Answers.{Answer}
 use Rattle.answers.specs.declared.Refusal.{Refusal}
 use Rattle.answers.specs.declared.Refusal.TheVariants.{Unusable, Unknown}
 use Rattle.layout.specs.Disk as D
@@ -43,9 +40,9 @@ pub length-unstage : (p : ℕ) (s : List ℕ) → length (unstage p s) ≡ lengt
 unfolding unstage
 length-unstage p s = length-put_staged s p untouched
 
-pub length-untrack_in : (d s : List ℕ) (f : Found) → length (untrack_in d s f) ≡ length s
-length-untrack_in d s (At place) = length-retracked d s place UntrackAll
-length-untrack_in d s Nothing = refl
+pub length-untrack_in : (d s : List ℕ) (f : Option ℕ) → length (untrack_in d s f) ≡ length s
+length-untrack_in d s (Some place) = length-retracked d s place UntrackAll
+length-untrack_in d s None = refl
 
 pub length-reverted : (p : ℕ) (s : List ℕ) → length (reverted p s) ≡ length s
 unfolding reverted
@@ -115,9 +112,9 @@ module _ (s : List ℕ) (begun : Begun s) (p : ℕ) (low : p < 8) where
       let short = o.short in
       open-with o o.small o.inside (omega arith) (rw staged-unstage (omega arith)))
 
-pub begun-untrack_in : (d s : List ℕ) → D.Sound d → Begun s → (f : Found) → Begun (untrack_in d s f)
-begun-untrack_in d s sound begun (At place) = begun-retracked d s place UntrackAll sound.head.few begun
-begun-untrack_in d s sound begun Nothing = begun
+pub begun-untrack_in : (d s : List ℕ) → D.Sound d → Begun s → (f : Option ℕ) → Begun (untrack_in d s f)
+begun-untrack_in d s sound begun (Some place) = begun-retracked d s place UntrackAll sound.head.few begun
+begun-untrack_in d s sound begun None = begun
 
 -- a row without a handle is not looked at
 no_number : (s : List ℕ) (p : ℕ) → tape_at p + 24 ≤ length s → handle_number (put_handle s p no_handle) p ≡ 0
@@ -170,9 +167,9 @@ module _ (s : List ℕ) (long : session_bytes ≤ length s) (bytes : Bytes s) wh
       bytes-put_ring (unstage p s) (bytes-unstage s long bytes p low) p _ (omega arith)
 
   module _ (d : List ℕ) (sound : D.Sound d) where
-    pub bytes-untrack_in : (f : Found) → Bytes (untrack_in d s f)
-    bytes-untrack_in (At place) = bytes-retracked d s place UntrackAll sound.head.few long bytes
-    bytes-untrack_in Nothing = bytes
+    pub bytes-untrack_in : (f : Option ℕ) → Bytes (untrack_in d s f)
+    bytes-untrack_in (Some place) = bytes-retracked d s place UntrackAll sound.head.few long bytes
+    bytes-untrack_in None = bytes
 
 module _ (d : List ℕ) (sound : D.Sound d) where
   module _ (s : List ℕ) (long : session_bytes ≤ length s) (bytes : Bytes s) (p : ℕ) (low : p < 8) where
@@ -225,24 +222,24 @@ module _ (d s : List ℕ) (n : ℕ) where
   drop-unusable bad = rw bad
 
   module _ (ok : usable d s ≡ true) where
-    pub drop-unknown : find_transaction s n ≡ Nothing → drop_transaction_call d s n ≡ refused Unknown s
+    pub drop-unknown : find_transaction s n ≡ None → drop_transaction_call d s n ≡ refused Unknown s
     unfolding drop_transaction_call
     drop-unknown e = rw (ok, e)
 
-    pub drop-served : (t : ℕ) {u : List ℕ} → find_transaction s n ≡ At t → u ≡ drop_at d s t → drop_transaction_call d s n ≡ after (Done 0) u
+    pub drop-served : (t : ℕ) {u : List ℕ} → find_transaction s n ≡ Some t → u ≡ drop_at d s t → drop_transaction_call d s n ≡ after (Ok 0) u
     unfolding drop_transaction_call
     drop-served t e f = rw (ok, e, f)
 
 -- what holds of each way out holds of the call
 pub drop-cases : (P : After → Type 0) (d s : List ℕ) (n : ℕ) → ((why : Refusal) → P (refused why s))
-    → ((t : ℕ) → usable d s ≡ true → find_transaction s n ≡ At t → P (after (Done 0) (drop_at d s t))) → P (drop_transaction_call d s n)
+    → ((t : ℕ) → usable d s ≡ true → find_transaction s n ≡ Some t → P (after (Ok 0) (drop_at d s t))) → P (drop_transaction_call d s n)
 unfolding drop_transaction_call
 drop-cases P d s n stays goes =
     picked P (usable d s) _ _ (λ ok. by ok (find_transaction s n) refl) (λ bad. stays Unusable)
   where
-    by : usable d s ≡ true → (f : Found) → find_transaction s n ≡ f → P (drop_found d s f)
-    by ok (At t) e = goes t ok e
-    by ok Nothing e = stays Unknown
+    by : usable d s ≡ true → (f : Option ℕ) → find_transaction s n ≡ f → P (drop_found d s f)
+    by ok (Some t) e = goes t ok e
+    by ok None e = stays Unknown
 
 module _ (d s : List ℕ) (n : ℕ) where
   -- the contract leaves nothing open

@@ -1,12 +1,11 @@
 -- What a drop means. "Dropping a truncate changes nothing": the writer's place is closed and nothing is staged any more; a reader's place is closed, and
 -- that is all. Assumes nothing.
-use Rattle.std.specs.Prelude.{◌≡◌, refl, ◌≢◌, true, List, ℕ, ◌≤◌, ◌<◌}
+use Rattle.std.specs.Prelude.{◌≡◌, refl, ◌≢◌, true, List, ℕ, ◌≤◌, ◌<◌, Some}
 use Rattle.std.proofs.Common.{sym, ap, ◌∙◌, arith, ne_eqb}
 use Rattle.std.proofs.Math.Path.{fun_ext}
 use Rattle.octets.specs.Cases.{order, equal}
 use Rattle.octets.specs.Sweep.{sweep, sweep-keeps, Rowwise, sweep-row}
 use Rattle.octets.specs.Words.{table-out}
-use Rattle.octets.specs.declared.Found.TheVariants.{At}
 use Rattle.session.specs.Rows.{transaction_of, staged_of, find_transaction}
 use Rattle.session.specs.RowLaws.{TransactionFits, only-put_staged, staged-same, staged-only}
 use Rattle.session.specs.KeepLaws.{begun-ready}
@@ -126,14 +125,14 @@ left_alone m rows places = record { head = refl; name = refl; view = refl; handl
 
 module _ (d s : List ℕ) (n : ℕ) where
   -- a served drop, exactly
-  pub drop-truncate-means : usable d s ≡ true → find_transaction s n ≡ At 16 → (transaction_of s 16).kind ≡ Truncate
+  pub drop-truncate-means : usable d s ≡ true → find_transaction s n ≡ Some 16 → (transaction_of s 16).kind ≡ Truncate
       → session_of (drop_transaction_call d s n).session ≡ writer_closed (session_of s)
   drop-truncate-means ok found kind =
       ap (λ (o : After). session_of o.session) (drop-served d s n ok 16 found refl)
       ∙ ap session_of (truncate-at d s kind)
       ∙ session-close_writer s (begun-ready s (usable-begun d s ok))
 
-  pub drop-reader-means : (t : ℕ) → usable d s ≡ true → find_transaction s n ≡ At t → t ≢ 16
+  pub drop-reader-means : (t : ℕ) → usable d s ≡ true → find_transaction s n ≡ Some t → t ≢ 16
       → session_of (drop_transaction_call d s n).session ≡ with_transaction (session_of s) t closed
   drop-reader-means t ok found apart =
       ap (λ (o : After). session_of o.session) (drop-served d s n ok t found refl)

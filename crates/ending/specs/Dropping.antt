@@ -1,10 +1,7 @@
 -- "Dropping an append restores lengths; a tape created in it loses its handle. Dropping a truncate changes nothing." The disk is not written. Assumes
 -- nothing.
-use Rattle.std.specs.Prelude.{cond, List, [], ℕ, ◌-◌, eqb}
+use Rattle.std.specs.Prelude.{cond, List, [], ℕ, ◌-◌, eqb, Option, Some, None, Ok}
 use Rattle.octets.specs.Sweep.{sweep}
-use Rattle.octets.specs.declared.Found.{Found}
-use Rattle.octets.specs.declared.Found.TheVariants.{At, Nothing}
-use Rattle.answers.specs.declared.Answer.TheVariants.{Done}
 use Rattle.answers.specs.declared.Refusal.TheVariants.{Unusable, Unknown}
 use Rattle.layout.specs.Names.{put_name}
 use Rattle.layout.specs.Session.{names_at}
@@ -22,9 +19,9 @@ use Rattle.ending.specs.Steps.{unstage, close_writer}
 unfoldable pub reverted : ℕ → List ℕ → List ℕ
 reverted p s = put_ring (unstage p s) p (popped (ring_of s p) ((staged_of s p).len - (staged_of s p).base))
 
-abbrev pub untrack_in : List ℕ → List ℕ → Found → List ℕ
-untrack_in d s (At place) = retracked d s place UntrackAll
-untrack_in d s Nothing = s
+abbrev pub untrack_in : List ℕ → List ℕ → Option ℕ → List ℕ
+untrack_in d s (Some place) = retracked d s place UntrackAll
+untrack_in d s None = s
 
 -- a tape that was created loses its handle and its place
 unfoldable pub forgotten : List ℕ → ℕ → List ℕ → List ℕ
@@ -42,9 +39,9 @@ unfoldable pub drop_at : List ℕ → List ℕ → ℕ → List ℕ
 drop_at d s t =
     cond (eqb t 16) (cond (is_append (transaction_of s 16).kind) (drop_append d s) (close_writer s)) (put_transaction s t closed)
 
-abbrev pub drop_found : List ℕ → List ℕ → Found → After
-drop_found d s (At t) = after (Done 0) (drop_at d s t)
-drop_found d s Nothing = refused Unknown s
+abbrev pub drop_found : List ℕ → List ℕ → Option ℕ → After
+drop_found d s (Some t) = after (Ok 0) (drop_at d s t)
+drop_found d s None = refused Unknown s
 
 unfoldable pub drop_transaction_call : List ℕ → List ℕ → ℕ → After
 drop_transaction_call d s t = cond (usable d s) (drop_found d s (find_transaction s t)) (refused Unusable s)

@@ -1,10 +1,8 @@
 -- The list that a commit publishes: of each tape that the writer touched what it has staged, of the others what its view says; by name in byte order.
 -- Assumes nothing.
-use Rattle.std.specs.Prelude.{Bool, true, cond, not, ◌&&◌, List, [], ◌∷◌, ℕ, zero, suc, eqb}
+use Rattle.std.specs.Prelude.{Bool, true, cond, not, ◌&&◌, List, [], ◌∷◌, ℕ, zero, suc, eqb, Option, Some, None}
 use Rattle.octets.specs.Compare.{comes_before}
 use Rattle.octets.specs.Sweep.{sweep}
-use Rattle.octets.specs.declared.Found.{Found}
-use Rattle.octets.specs.declared.Found.TheVariants.{At, Nothing}
 use Rattle.components.specs.Bounds.{cut_start}
 use Rattle.metadata.specs.Tapes.{Tape}
 use Rattle.layout.specs.Names.{name}
@@ -29,27 +27,27 @@ published s cut p =
 
 -- ---- in byte order: behind a name the least that comes after it
 
-abbrev pub is_less : List ℕ → ℕ → Found → Bool
-is_less s p (At q) = comes_before (name s names_at p) (name s names_at q)
-is_less s p Nothing = true
+abbrev pub is_less : List ℕ → ℕ → Option ℕ → Bool
+is_less s p (Some q) = comes_before (name s names_at p) (name s names_at q)
+is_less s p None = true
 
 -- tape p is published, its name comes behind one, and before the best so far
-unfoldable pub is_next : List ℕ → Bool → List ℕ → Found → ℕ → Bool
+unfoldable pub is_next : List ℕ → Bool → List ℕ → Option ℕ → ℕ → Bool
 is_next s cut before best p = (published s cut p).listed && (comes_before before (name s names_at p) && is_less s p best)
 
-unfoldable pub better : List ℕ → Bool → List ℕ → ℕ → Found → Found
-better s cut before p best = cond (is_next s cut before best p) (At p) best
+unfoldable pub better : List ℕ → Bool → List ℕ → ℕ → Option ℕ → Option ℕ
+better s cut before p best = cond (is_next s cut before best p) (Some p) best
 
-unfoldable pub next_behind : List ℕ → Bool → List ℕ → Found
-next_behind s cut before = sweep (better s cut before) 8 0 Nothing
+unfoldable pub next_behind : List ℕ → Bool → List ℕ → Option ℕ
+next_behind s cut before = sweep (better s cut before) 8 0 None
 
 unfoldable pub tape_in : List ℕ → Bool → ℕ → Tape
 tape_in s cut p = record { name = name s names_at p; len = (published s cut p).len; start = (published s cut p).start }
 
 -- a tape that was found, and what comes behind its name
-abbrev pub with_next : List ℕ → Bool → (List ℕ → List Tape) → Found → List Tape
-with_next s cut rest (At p) = tape_in s cut p ∷ rest (name s names_at p)
-with_next s cut rest Nothing = []
+abbrev pub with_next : List ℕ → Bool → (List ℕ → List Tape) → Option ℕ → List Tape
+with_next s cut rest (Some p) = tape_in s cut p ∷ rest (name s names_at p)
+with_next s cut rest None = []
 
 -- at most k tapes behind a name
 unfoldable pub list_behind : List ℕ → Bool → ℕ → List ℕ → List Tape

@@ -1,6 +1,6 @@
 -- The published list has every tape that is published, and no other: a name that is found is behind the last, so at most 8 searches find them all.
 -- Assumes nothing.
-use Rattle.std.specs.Prelude.{◌≡◌, Bool, ◌&&◌}
+use Rattle.std.specs.Prelude.{◌≡◌, Bool, ◌&&◌, Option, Some, None}
 use Rattle.std.proofs.Math.Path.{refl}
 use Rattle.std.proofs.Common.{sym, ◌∙◌, ⊎_elim, true≢false, arith}
 use Rattle.std.proofs.Math.Bool.{true, false}
@@ -10,8 +10,6 @@ use Prim.Native.Nat.{ℕ, zero, suc, ◌≤◌, ◌<◌}
 use Rattle.octets.specs.Cases.{decide, and_l, and_r, and_both}
 use Rattle.octets.specs.Compare.{comes_before, before-irrefl, before-trans, before-total}
 use Rattle.octets.specs.First.{count, count-le, count-fewer}
-use Rattle.octets.specs.declared.Found.{Found}
-use Rattle.octets.specs.declared.Found.TheVariants.{At, Nothing}
 use Rattle.metadata.specs.Tapes.{Tape}
 use Rattle.layout.specs.Names.{name}
 use Rattle.layout.specs.Session.{names_at}
@@ -31,16 +29,16 @@ unfolding list_behind
 from-behind s cut zero before m = absurd (Memᴰ.not-nil m)
 from-behind s cut (suc k) before {t} m = by (next_behind s cut before) refl (λ last n. from-behind s cut k last n) m
   where
-    by : (f : Found) → next_behind s cut before ≡ f → ((last : List ℕ) → Memᴰ t (list_behind s cut k last) → From s cut t)
+    by : (f : Option ℕ) → next_behind s cut before ≡ f → ((last : List ℕ) → Memᴰ t (list_behind s cut k last) → From s cut t)
         → Memᴰ t (with_next s cut (list_behind s cut k) f) → From s cut t
-    by (At p) e rest n =
+    by (Some p) e rest n =
         ⊎_elim
         (λ (q : t ≡ tape_in s cut p).
         let found = next-found s cut before p e in
         record { place = p; low = found.low; listed = found.listed; same = q })
         (λ o. rest (name s names_at p) o)
         (Memᴰ.cases_cons n)
-    by Nothing e rest n = absurd (Memᴰ.not-nil n)
+    by None e rest n = absurd (Memᴰ.not-nil n)
 
 pub next-only : (s : List ℕ) (cut : Bool) {t : Tape} → Memᴰ t (next_list s cut) → From s cut t
 next-only s cut m = from-behind s cut 8 [] m
@@ -81,10 +79,10 @@ module _ (s : List ℕ) (cut : Bool) where
       all-behind zero before l behind = absurd (none-behind before q l low (is-behind before q listed behind))
       all-behind (suc k) before l behind = by (next_behind s cut before) refl (λ last m n. all-behind k last m n)
         where
-          by : (f : Found) → next_behind s cut before ≡ f
+          by : (f : Option ℕ) → next_behind s cut before ≡ f
               → ((last : List ℕ) → count (is_behind last) 8 0 ≤ k → comes_before last (name s names_at q) ≡ true → Memᴰ (tape_in s cut q) (list_behind s cut k last))
               → Memᴰ (tape_in s cut q) (with_next s cut (list_behind s cut k) f)
-          by (At p) e rest =
+          by (Some p) e rest =
               let found = next-found s cut before p e in
               let less = fewer before p found in
               decide (comes_before (name s names_at p) (name s names_at q))
@@ -93,7 +91,7 @@ module _ (s : List ℕ) (cut : Bool) where
               let alike = before-total (name s names_at p) (name s names_at q) f (next-first s cut before p q e low listed behind) in
               let same : p ≡ q = apart p q found.low low found.listed listed alike in
               Memᴰ.head (rw same))
-          by Nothing e rest = absurd (true≢false (sym behind ∙ next-none s cut before q e low listed))
+          by None e rest = absurd (true≢false (sym behind ∙ next-none s cut before q e low listed))
 
       pub next-all : comes_before [] (name s names_at q) ≡ true → Memᴰ (tape_in s cut q) (next_list s cut)
       next-all some = all-behind 8 [] (count-le (is_behind []) 8 0) some

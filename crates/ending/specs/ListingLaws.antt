@@ -2,7 +2,7 @@
 -- Assumes nothing.
 use Rattle.std.proofs.Math.Path.{◌≡◌, refl}
 use Rattle.std.proofs.Common.{sym, ap, ◌∙◌, true≢false, add-zero}
-use Rattle.std.specs.Prelude.{Bool, false, ◌&&◌, length}
+use Rattle.std.specs.Prelude.{Bool, false, ◌&&◌, length, Option, Some, None}
 use Rattle.std.proofs.Math.Bool.{true}
 use mathlib.Core.List.{List, [], ◌∷◌}
 use Prim.Native.Nat.{ℕ, zero, suc, ◌+◌, ◌-◌, ◌≤◌, ◌<◌}
@@ -11,8 +11,6 @@ use borrow.Author.Tests.{le-leb}
 use Rattle.octets.specs.Cases.{decide, order, and_l, and_r}
 use Rattle.octets.specs.Compare.{comes_before, before-irrefl, before-trans}
 use Rattle.octets.specs.Sweep.{sweep, sweep-turn, sweep-end, sweep-keeps}
-use Rattle.octets.specs.declared.Found.{Found}
-use Rattle.octets.specs.declared.Found.TheVariants.{At, Nothing}
 use Rattle.metadata.specs.Tapes.{fits, good_after}
 use Rattle.metadata.specs.Name.{name_rule}
 use Rattle.metadata.specs.Rules.{fits-numbers, good-cons, good-list}
@@ -32,8 +30,8 @@ name-short s p begun low =
 
 -- ---- one turn of the search, and its end, where 8 - i tapes are left
 
-module _ (s : List ℕ) (cut : Bool) (before : List ℕ) (best : Found) (i : ℕ) where
-  pub better-hit : is_next s cut before best i ≡ true → better s cut before i best ≡ At i
+module _ (s : List ℕ) (cut : Bool) (before : List ℕ) (best : Option ℕ) (i : ℕ) where
+  pub better-hit : is_next s cut before best i ≡ true → better s cut before i best ≡ Some i
   unfolding better
   better-hit e = rw e
 
@@ -42,7 +40,7 @@ module _ (s : List ℕ) (cut : Bool) (before : List ℕ) (best : Found) (i : ℕ
   better-miss e = rw e
 
   pub next-hit : i < 8 → is_next s cut before best i ≡ true
-      → sweep (better s cut before) (8 - i) i best ≡ sweep (better s cut before) (8 - (i + 1)) (i + 1) (At i)
+      → sweep (better s cut before) (8 - i) i best ≡ sweep (better s cut before) (8 - (i + 1)) (i + 1) (Some i)
   next-hit l e = sweep-turn (better s cut before) 8 i best l ∙ ap (sweep (better s cut before) (8 - (i + 1)) (i + 1)) (better-hit e)
 
   pub next-miss : i < 8 → is_next s cut before best i ≡ false
@@ -61,7 +59,7 @@ pub record Next (s : List ℕ) (cut : Bool) (before : List ℕ) (p : ℕ) : Type
   pub behind : comes_before before (name s names_at p) ≡ true
 
 module _ (s : List ℕ) (cut : Bool) (before : List ℕ) where
-  module _ (best : Found) (i : ℕ) (e : is_next s cut before best i ≡ true) where
+  module _ (best : Option ℕ) (i : ℕ) (e : is_next s cut before best i ≡ true) where
     next-is-listed : (published s cut i).listed ≡ true
     unfolding is_next
     next-is-listed = and_l (published s cut i).listed (comes_before before (name s names_at i) && is_less s i best) e
@@ -76,14 +74,14 @@ module _ (s : List ℕ) (cut : Bool) (before : List ℕ) where
     next-is-less : is_less s i best ≡ true
     next-is-less = and_r (comes_before before (name s names_at i)) (is_less s i best) next-orders
 
-  pub next-found : (p : ℕ) → next_behind s cut before ≡ At p → Next s cut before p
+  pub next-found : (p : ℕ) → next_behind s cut before ≡ Some p → Next s cut before p
   unfolding next_behind
   next-found =
-      sweep-keeps (λ (f : Found). (p : ℕ) → f ≡ At p → Next s cut before p) (better s cut before) 8 0 Nothing step
-      (λ (p : ℕ) (e : Nothing ≡ At p). let z : ◌≡◌ {A = ℕ} 0 1 = cc in absurd (omega arith))
+      sweep-keeps (λ (f : Option ℕ). (p : ℕ) → f ≡ Some p → Next s cut before p) (better s cut before) 8 0 None step
+      (λ (p : ℕ) (e : None ≡ Some p). let z : ◌≡◌ {A = ℕ} 0 1 = cc in absurd (omega arith))
     where
-      step : (j : ℕ) (best : Found) → 0 ≤ j → j < 0 + 8 → ((p : ℕ) → best ≡ At p → Next s cut before p)
-          → (p : ℕ) → better s cut before j best ≡ At p → Next s cut before p
+      step : (j : ℕ) (best : Option ℕ) → 0 ≤ j → j < 0 + 8 → ((p : ℕ) → best ≡ Some p → Next s cut before p)
+          → (p : ℕ) → better s cut before j best ≡ Some p → Next s cut before p
       step j best l m h p e =
           decide (is_next s cut before best j)
           (λ (t : is_next s cut before best j ≡ true).
@@ -91,37 +89,37 @@ module _ (s : List ℕ) (cut : Bool) (before : List ℕ) where
           rw (sym same) (record { low = omega arith; listed = next-is-listed best j t; behind = next-is-behind best j t }))
           (λ (f : is_next s cut before best j ≡ false). h p (sym (better-miss s cut before best j f) ∙ e))
 
-  pub next-behind-low : (p : ℕ) → next_behind s cut before ≡ At p → p < 8
+  pub next-behind-low : (p : ℕ) → next_behind s cut before ≡ Some p → p < 8
   next-behind-low p e = (next-found p e).low
 
-  pub next-listed : (p : ℕ) → next_behind s cut before ≡ At p → (published s cut p).listed ≡ true
+  pub next-listed : (p : ℕ) → next_behind s cut before ≡ Some p → (published s cut p).listed ≡ true
   next-listed p e = (next-found p e).listed
 
-  pub next-order : (p : ℕ) → next_behind s cut before ≡ At p → comes_before before (name s names_at p) ≡ true
+  pub next-order : (p : ℕ) → next_behind s cut before ≡ Some p → comes_before before (name s names_at p) ≡ true
   next-order p e = (next-found p e).behind
 
 -- ---- it is the least
 
 module _ (s : List ℕ) (cut : Bool) (before : List ℕ) where
   -- none that could be next comes before the one found; none was missed
-  Passed : ℕ → Found → Type 0
+  Passed : ℕ → Option ℕ → Type 0
   Passed i best = (q : ℕ) → q < i → (published s cut q).listed ≡ true → comes_before before (name s names_at q) ≡ true → is_less s q best ≡ false
 
   -- what is not before one is not before a lesser one
-  not-before : (q i : ℕ) (best : Found) → is_less s q best ≡ false → is_less s i best ≡ true → comes_before (name s names_at q) (name s names_at i) ≡ false
-  not-before q i Nothing f t = absurd (true≢false f)
-  not-before q i (At b) f t =
+  not-before : (q i : ℕ) (best : Option ℕ) → is_less s q best ≡ false → is_less s i best ≡ true → comes_before (name s names_at q) (name s names_at i) ≡ false
+  not-before q i None f t = absurd (true≢false f)
+  not-before q i (Some b) f t =
       decide (comes_before (name s names_at q) (name s names_at i))
       (λ (e : comes_before (name s names_at q) (name s names_at i) ≡ true).
       absurd (true≢false (sym (before-trans (name s names_at q) (name s names_at i) (name s names_at b) e t) ∙ f)))
       (λ e. e)
 
-  not-less : (best : Found) (i : ℕ) → is_next s cut before best i ≡ false → (published s cut i).listed ≡ true → comes_before before (name s names_at i) ≡ true
+  not-less : (best : Option ℕ) (i : ℕ) → is_next s cut before best i ≡ false → (published s cut i).listed ≡ true → comes_before before (name s names_at i) ≡ true
       → is_less s i best ≡ false
   unfolding is_next
   not-less best i f listed behind = rw (listed, behind) at f
 
-  passed-one : (i : ℕ) (best : Found) → Passed i best → Passed (i + 1) (better s cut before i best)
+  passed-one : (i : ℕ) (best : Option ℕ) → Passed i best → Passed (i + 1) (better s cut before i best)
   unfolding Passed
   passed-one i best h q l listed behind =
       decide (is_next s cut before best i)
@@ -138,7 +136,7 @@ module _ (s : List ℕ) (cut : Bool) (before : List ℕ) where
       let same : q ≡ i = omega arith in
       rw same (not-less best i f (rw same at listed) (rw same at behind)))))
 
-  passed-all : (k i : ℕ) (best : Found) → Passed i best → Passed (i + k) (sweep (better s cut before) k i best)
+  passed-all : (k i : ℕ) (best : Option ℕ) → Passed i best → Passed (i + k) (sweep (better s cut before) k i best)
   unfolding sweep
   passed-all zero i best h = rw (add-zero i) h
   passed-all (suc k) i best h =
@@ -147,15 +145,15 @@ module _ (s : List ℕ) (cut : Bool) (before : List ℕ) where
 
   pub next-least : (q : ℕ) → q < 8 → (published s cut q).listed ≡ true → comes_before before (name s names_at q) ≡ true → is_less s q (next_behind s cut before) ≡ false
   unfolding next_behind Passed
-  next-least = passed-all 8 0 Nothing (λ q l. absurd (omega arith))
+  next-least = passed-all 8 0 None (λ q l. absurd (omega arith))
 
   -- of a published tape behind the name, the one found does not come later
-  pub next-first : (p q : ℕ) → next_behind s cut before ≡ At p → q < 8 → (published s cut q).listed ≡ true → comes_before before (name s names_at q) ≡ true
+  pub next-first : (p q : ℕ) → next_behind s cut before ≡ Some p → q < 8 → (published s cut q).listed ≡ true → comes_before before (name s names_at q) ≡ true
       → comes_before (name s names_at q) (name s names_at p) ≡ false
   next-first p q e l listed behind = rw e at (next-least q l listed behind)
 
   -- where none is found there is none
-  pub next-none : (q : ℕ) → next_behind s cut before ≡ Nothing → q < 8 → (published s cut q).listed ≡ true → comes_before before (name s names_at q) ≡ false
+  pub next-none : (q : ℕ) → next_behind s cut before ≡ None → q < 8 → (published s cut q).listed ≡ true → comes_before before (name s names_at q) ≡ false
   next-none q e l listed =
       decide (comes_before before (name s names_at q))
       (λ (t : comes_before before (name s names_at q) ≡ true). absurd (true≢false (rw e at (next-least q l listed t))))
@@ -164,14 +162,14 @@ module _ (s : List ℕ) (cut : Bool) (before : List ℕ) where
 -- ---- the list: one tape more, and its end, where at most 8 - i are left
 
 module _ (s : List ℕ) (cut : Bool) (before : List ℕ) (i : ℕ) where
-  pub list-more : (p : ℕ) → i < 8 → next_behind s cut before ≡ At p
+  pub list-more : (p : ℕ) → i < 8 → next_behind s cut before ≡ Some p
       → list_behind s cut (8 - i) before ≡ tape_in s cut p ∷ list_behind s cut (8 - (i + 1)) (name s names_at p)
   unfolding list_behind
   list-more p l e =
       let k : 8 - i ≡ suc (8 - (i + 1)) = omega arith in
       rw (k, e)
 
-  pub list-none : i < 8 → next_behind s cut before ≡ Nothing → list_behind s cut (8 - i) before ≡ []
+  pub list-none : i < 8 → next_behind s cut before ≡ None → list_behind s cut (8 - i) before ≡ []
   unfolding list_behind
   list-none l e =
       let k : 8 - i ≡ suc (8 - (i + 1)) = omega arith in
@@ -196,9 +194,9 @@ unfolding list_behind
 few s cut zero before = omega arith
 few s cut (suc k) before = by (next_behind s cut before) (few s cut k)
   where
-    by : (f : Found) → ((last : List ℕ) → length (list_behind s cut k last) ≤ k) → length (with_next s cut (list_behind s cut k) f) ≤ suc k
-    by (At p) rest = omega (arith, rest (name s names_at p))
-    by Nothing rest = omega arith
+    by : (f : Option ℕ) → ((last : List ℕ) → length (list_behind s cut k last) ≤ k) → length (with_next s cut (list_behind s cut k) f) ≤ suc k
+    by (Some p) rest = omega (arith, rest (name s names_at p))
+    by None rest = omega arith
 
 pub next-few : (s : List ℕ) (cut : Bool) → length (next_list s cut) ≤ 8
 next-few s cut = few s cut 8 []
@@ -210,7 +208,7 @@ pub record Good (s : List ℕ) (cut : Bool) (p : ℕ) : Type 0 where
 
 -- where the published tapes are good, the list is one that may be stored
 module _ (s : List ℕ) (cut : Bool) (good : (p : ℕ) → p < 8 → (published s cut p).listed ≡ true → Good s cut p) where
-  found-fits : (before : List ℕ) (p : ℕ) → next_behind s cut before ≡ At p → fits before (tape_in s cut p) ≡ true
+  found-fits : (before : List ℕ) (p : ℕ) → next_behind s cut before ≡ Some p → fits before (tape_in s cut p) ≡ true
   unfolding tape_in
   found-fits before p e =
       let g = good p (next-behind-low s cut before p e) (next-listed s cut before p e) in
@@ -222,11 +220,11 @@ module _ (s : List ℕ) (cut : Bool) (good : (p : ℕ) → p < 8 → (published 
   behind-good zero before = refl
   behind-good (suc k) before = by (next_behind s cut before) refl (behind-good k)
     where
-      by : (f : Found) → next_behind s cut before ≡ f → ((last : List ℕ) → good_after last (list_behind s cut k last) ≡ true)
+      by : (f : Option ℕ) → next_behind s cut before ≡ f → ((last : List ℕ) → good_after last (list_behind s cut k last) ≡ true)
           → good_after before (with_next s cut (list_behind s cut k) f) ≡ true
-      by (At p) e rest =
+      by (Some p) e rest =
           good-cons before (tape_in s cut p) (list_behind s cut k (name s names_at p)) (found-fits before p e) (rest (name s names_at p))
-      by Nothing e rest = refl
+      by None e rest = refl
 
   pub next-storable : storable (list_of (next_list s cut)) ≡ true
   next-storable = storable-list (next_list s cut) (good-list (next_list s cut) (next-few s cut) (behind-good 8 []))

@@ -1,5 +1,5 @@
 -- Laws of the steps of a commit: where each writes, that the disk stays sound and the session begun, and that bytes stay bytes. Assumes nothing.
-use Rattle.std.specs.Prelude.{◌≡◌, refl, ◌≢◌, Bool, false, ℕ, ◌+◌, ◌≤◌, ◌<◌, ◌^◌, length}
+use Rattle.std.specs.Prelude.{◌≡◌, refl, ◌≢◌, Bool, false, ℕ, ◌+◌, ◌≤◌, ◌<◌, ◌^◌, length, Option, Some, None}
 use Rattle.std.proofs.Common.{sym, ◌∙◌, true≢false, arith, eq-eqb}
 use Rattle.std.proofs.Math.Bool.{true}
 use mathlib.Core.List.{List, [], ◌++◌}
@@ -7,8 +7,6 @@ use Rattle.octets.specs.Cases.{picked}
 use Rattle.octets.specs.Number.{Bytes, bytes_le, bytes-append, num_at-lt}
 use Rattle.octets.specs.Only.{OnlyIn, only_none, only_then, only_wider}
 use Rattle.octets.specs.Sweep.{sweep, sweep-keeps}
-use Rattle.octets.specs.declared.Found.{Found}
-use Rattle.octets.specs.declared.Found.TheVariants.{At, Nothing}
 use Rattle.blake2b.specs.Laws.{bytes-blake2b}
 use Rattle.borsh.specs.Encoding.{u32, u64, array, vec}
 use Rattle.borsh.specs.Laws.{bytes-vec}
@@ -122,7 +120,7 @@ kept-sweep f each a w =
 -- ---- what the files lack
 
 module _ (p : ℕ) (a : Areas) (low : p < 8) (w : Whole a) where
-  kept-flushed : is_touched a.session p ≡ true → (place : ℕ) → place < 8 → Kept a (flush_in a p (At place))
+  kept-flushed : is_touched a.session p ≡ true → (place : ℕ) → place < 8 → Kept a (flush_in a p (Some place))
   kept-flushed t place there =
       let s = a.session in
       let row = staged_of s p in
@@ -147,9 +145,9 @@ module _ (p : ℕ) (a : Areas) (low : p < 8) (w : Whole a) where
       (λ t. by t (directory_of a.disk a.session p) refl)
       (λ e. kept-none a w)
     where
-      by : is_touched a.session p ≡ true → (f : Found) → directory_of a.disk a.session p ≡ f → Kept a (flush_in a p f)
-      by t (At place) e = kept-flushed t place (directory-low a.disk _ place e)
-      by t Nothing e = kept-none a w
+      by : is_touched a.session p ≡ true → (f : Option ℕ) → directory_of a.disk a.session p ≡ f → Kept a (flush_in a p f)
+      by t (Some place) e = kept-flushed t place (directory-low a.disk _ place e)
+      by t None e = kept-none a w
 
 -- ---- marks and removal
 
@@ -181,9 +179,9 @@ module _ (began oldest p : ℕ) (a : Areas) (w : Whole a) where
       (λ t. by (directory_of a.disk a.session p))
       (λ e. kept-none a w)
     where
-      by : (f : Found) → Kept a (ripen_in a began oldest p f)
-      by (At place) = kept-ripened place
-      by Nothing = kept-none a w
+      by : (f : Option ℕ) → Kept a (ripen_in a began oldest p f)
+      by (Some place) = kept-ripened place
+      by None = kept-none a w
 
 -- ---- both over all tapes
 

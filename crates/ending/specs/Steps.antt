@@ -1,9 +1,7 @@
 -- The steps of a commit: data go to the files, the list is published, the record is written, files that nobody needs are removed, and the writer's place
 -- is closed, in this order. Assumes nothing.
-use Rattle.std.specs.Prelude.{Bool, cond, List, ℕ, ◌+◌}
+use Rattle.std.specs.Prelude.{Bool, cond, List, ℕ, ◌+◌, Option, Some, None}
 use Rattle.octets.specs.Sweep.{sweep}
-use Rattle.octets.specs.declared.Found.{Found}
-use Rattle.octets.specs.declared.Found.TheVariants.{At, Nothing}
 use Rattle.components.specs.Pieces.{file_of}
 use Rattle.metadata.specs.Tapes.{encode_list}
 use Rattle.metadata.specs.Struct.{tapes_of}
@@ -25,9 +23,9 @@ use Rattle.ending.specs.Listing.{is_touched, published}
 
 -- ---- what the files lack of each tape that was touched
 
-abbrev pub flush_in : Areas → ℕ → Found → Areas
-flush_in a p (At place) = flushed a place p (staged_of a.session p)
-flush_in a p Nothing = a
+abbrev pub flush_in : Areas → ℕ → Option ℕ → Areas
+flush_in a p (Some place) = flushed a place p (staged_of a.session p)
+flush_in a p None = a
 
 unfoldable pub flush_tape : ℕ → Areas → Areas
 flush_tape p a = cond (is_touched a.session p) (flush_in a p (directory_of a.disk a.session p)) a
@@ -73,9 +71,9 @@ ripened_at a began oldest p place =
     (retracked a.disk a.session place (MarkBelow (file_of (file_size_of a.session p) (view_of a.session 17 p).start) began)))
     place oldest
 
-abbrev pub ripen_in : Areas → ℕ → ℕ → ℕ → Found → Areas
-ripen_in a began oldest p (At place) = ripened_at a began oldest p place
-ripen_in a began oldest p Nothing = a
+abbrev pub ripen_in : Areas → ℕ → ℕ → ℕ → Option ℕ → Areas
+ripen_in a began oldest p (Some place) = ripened_at a began oldest p place
+ripen_in a began oldest p None = a
 
 unfoldable pub ripen_tape : ℕ → ℕ → ℕ → Areas → Areas
 ripen_tape began oldest p a =
@@ -90,9 +88,9 @@ ripen_all began oldest a = sweep (ripen_tape began oldest) 8 0 a
 unfoldable pub cut_ring : ℕ → List ℕ → List ℕ
 cut_ring p s = put_ring (put_staged s p untouched) p (truncated (ring_of s p) (staged_of s p).len)
 
-abbrev pub clear_in : List ℕ → List ℕ → ℕ → ℕ → Found → List ℕ
-clear_in d s fs len (At place) = retracked d s place (ClearFrom (file_of fs len))
-clear_in d s fs len Nothing = s
+abbrev pub clear_in : List ℕ → List ℕ → ℕ → ℕ → Option ℕ → List ℕ
+clear_in d s fs len (Some place) = retracked d s place (ClearFrom (file_of fs len))
+clear_in d s fs len None = s
 
 unfoldable pub cut_tape : List ℕ → ℕ → List ℕ → List ℕ
 cut_tape d p s =

@@ -7,10 +7,9 @@ ghost use Rattle.layout.specs.Session.{Begun};
 ghost use Rattle.ending.specs.Checking.{has_directory, all_there, is_published, is_whole, may_commit};
 
 use crate::listing::{is_touched, published_view};
-use answers::{Answer, Refusal};
+use answers::Refusal;
 use layout::Session;
 use metadata::TapeList;
-use octets::Found;
 
 // Whether a tape has its directory, if it was touched.
 fn has_directory(disk: &[u8], session: &[u8], tape: usize) -> bool
@@ -21,8 +20,8 @@ fn has_directory(disk: &[u8], session: &[u8], tape: usize) -> bool
         let name = session::tape_name(session, tape);
         let found = disk::find_directory(disk, name);
         return match found {
-            Found::At(_) => true,
-            Found::Nothing => false,
+            Some(_) => true,
+            None => false,
         };
     }
     true
@@ -33,11 +32,8 @@ fn all_there(disk: &[u8], session: &[u8]) -> bool
     requires { Sound disk.now × Begun session.now }
     ensures { result ≡ all_there disk.now session.now }
 {
-    let mut i = 0;
-    while i < Session::MOST_TAPES {
-        if has_directory(disk, session, i) {
-            i += 1;
-        } else {
+    for i in 0..Session::MOST_TAPES {
+        if !has_directory(disk, session, i) {
             return false;
         }
     }
@@ -50,14 +46,10 @@ fn count_published(session: &[u8], cut: bool) -> usize
     ensures { result ≡ count (is_published session.now cut) 8 0 }
 {
     let mut found = 0;
-    let mut i = 0;
-    while i < Session::MOST_TAPES {
+    for i in 0..Session::MOST_TAPES {
         let view = published_view(session, cut, i);
         if view.listed {
             found += 1;
-            i += 1;
-        } else {
-            i += 1;
         }
     }
     found
@@ -75,7 +67,7 @@ fn may_store(session: &[u8], cut: bool, list: TapeList) -> bool
 }
 
 // The new epoch, if the list may be stored. Refused: 1, 18, 16.
-pub fn may_commit(disk: &[u8], session: &[u8], cut: bool, list: TapeList) -> Answer
+pub fn may_commit(disk: &[u8], session: &[u8], cut: bool, list: TapeList) -> Result<u64, Refusal>
     requires { Sound disk.now × Begun session.now }
     ensures { result ≡ may_commit disk.now session.now cut list }
 {
@@ -83,12 +75,12 @@ pub fn may_commit(disk: &[u8], session: &[u8], cut: bool, list: TapeList) -> Ans
         let head = session::get_head(session);
         let epoch = head.epoch;
         if epoch == 0xffff_ffff_ffff_ffff {
-            return Answer::Refused(Refusal::TooLarge);
+            return Err(Refusal::TooLarge);
         }
         if all_there(disk, session) {
-            return Answer::Done(epoch + 1);
+            return Ok(epoch + 1);
         }
-        return Answer::Refused(Refusal::Missing);
+        return Err(Refusal::Missing);
     }
-    Answer::Refused(Refusal::Unusable)
+    Err(Refusal::Unusable)
 }

@@ -14,7 +14,7 @@ use crate::oldest::oldest_of;
 use crate::steps::{
     advance, close_writer, cut_all, flush_all, publish_all, ripen_all, write_record,
 };
-use answers::{Answer, Refusal};
+use answers::Refusal;
 use layout::Session;
 use metadata::TapeList;
 
@@ -40,45 +40,45 @@ fn store_append(disk: &mut [u8], session: &mut [u8], list: TapeList)
     ripen_all(disk, session, writer.epoch, oldest);
 }
 
-fn commit_append(disk: &mut [u8], session: &mut [u8]) -> Answer
+fn commit_append(disk: &mut [u8], session: &mut [u8]) -> Result<u64, Refusal>
     requires { Sound disk.old × Begun session.old }
     ensures { commit_append disk.old session.old ≡ outcome result disk.new session.new }
 {
     let list = next_list(session, false);
     let answer = may_commit(disk, session, false, list);
     match answer {
-        Answer::Done(epoch) => {
+        Ok(epoch) => {
             if appending::no_room(disk, session, Session::MOST_TAPES, 0) {
-                return Answer::Refused(Refusal::NoSlot);
+                return Err(Refusal::NoSlot);
             }
             store_append(disk, session, list);
             close_writer(session);
-            Answer::Done(epoch)
+            Ok(epoch)
         }
-        Answer::Refused(why) => Answer::Refused(why),
+        Err(why) => Err(why),
     }
 }
 
-fn commit_truncate(disk: &mut [u8], session: &mut [u8]) -> Answer
+fn commit_truncate(disk: &mut [u8], session: &mut [u8]) -> Result<u64, Refusal>
     requires { Sound disk.old × Begun session.old }
     ensures { commit_truncate disk.old session.old ≡ outcome result disk.new session.new }
 {
     let list = next_list(session, true);
     let answer = may_commit(disk, session, true, list);
     match answer {
-        Answer::Done(epoch) => {
+        Ok(epoch) => {
             store_list(disk, session, true, list);
             cut_all(disk, session);
             close_writer(session);
-            Answer::Done(epoch)
+            Ok(epoch)
         }
-        Answer::Refused(why) => Answer::Refused(why),
+        Err(why) => Err(why),
     }
 }
 
 // Commits an append or a truncate, and answers the new epoch. Refused: 1, 2, 18; on damaged memory 16
 // and 15 too.
-pub fn commit(disk: &mut [u8], session: &mut [u8], transaction: u64) -> Answer
+pub fn commit(disk: &mut [u8], session: &mut [u8], transaction: u64) -> Result<u64, Refusal>
     ensures { commit_call disk.old session.old transaction ≡ outcome result disk.new session.new }
 {
     if beginning::is_usable(disk, session) {
@@ -88,7 +88,7 @@ pub fn commit(disk: &mut [u8], session: &mut [u8], transaction: u64) -> Answer
         if staging::is_cutting(session, transaction) {
             return commit_truncate(disk, session);
         }
-        return Answer::Refused(Refusal::Unknown);
+        return Err(Refusal::Unknown);
     }
-    Answer::Refused(Refusal::Unusable)
+    Err(Refusal::Unusable)
 }

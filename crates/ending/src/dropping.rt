@@ -1,6 +1,5 @@
 // A transaction given up.
 ghost use Rattle.std.specs.Prelude.{◌≡◌, ℕ, ◌≤◌, ◌<◌, length};
-ghost use Rattle.octets.specs.declared.Found.TheVariants.{At};
 ghost use Rattle.layout.specs.Disk.{Sound};
 ghost use Rattle.layout.specs.Session.{session_bytes, Begun};
 ghost use Rattle.beginning.specs.Transactions.{after};
@@ -8,9 +7,8 @@ ghost use Rattle.ending.specs.Dropping.{reverted, untrack_in, forgotten, take_ba
 
 use crate::listing::is_touched;
 use crate::steps::{close_writer, unstage_tape};
-use answers::{Answer, Refusal};
+use answers::Refusal;
 use layout::Session;
-use octets::Found;
 use ring_buffer::RingBuffer;
 use rolling_tape::Change;
 use session::{Handle, Transaction};
@@ -27,11 +25,11 @@ fn revert(session: &mut [u8], tape: usize)
     session::put_ring(session, tape, ring.pop(amount));
 }
 
-fn untrack(disk: &[u8], session: &mut [u8], directory: Found)
-    requires { (Sound disk.now × (session_bytes ≤ length session.old)) × ((place : ℕ) → directory ≡ At place → place < 8) }
+fn untrack(disk: &[u8], session: &mut [u8], directory: Option<usize>)
+    requires { (Sound disk.now × (session_bytes ≤ length session.old)) × ((place : ℕ) → directory ≡ Some place → place < 8) }
     ensures { session.new ≡ untrack_in disk.now session.old directory }
 {
-    let Found::At(place) = directory else {
+    let Some(place) = directory else {
         return;
     };
     rolling_tape::retrack(disk, session, place, Change::UntrackAll);
@@ -69,10 +67,8 @@ fn drop_append(disk: &[u8], session: &mut [u8])
     requires { Sound disk.now × Begun session.old }
     ensures { session.new ≡ drop_append disk.now session.old }
 {
-    let mut i = 0;
-    while i < Session::MOST_TAPES {
+    for i in 0..Session::MOST_TAPES {
         take_back(disk, session, i);
-        i += 1;
     }
     close_writer(session);
 }
@@ -96,15 +92,15 @@ fn drop_at(disk: &[u8], session: &mut [u8], place: usize)
 }
 
 // Gives up a transaction of any kind. Refused: 1, 2.
-pub fn drop_transaction(disk: &[u8], session: &mut [u8], transaction: u64) -> Answer
+pub fn drop_transaction(disk: &[u8], session: &mut [u8], transaction: u64) -> Result<u64, Refusal>
     ensures { drop_transaction_call disk.now session.old transaction ≡ after result session.new }
 {
     if beginning::is_usable(disk, session) {
-        let Found::At(place) = session::find_transaction(session, transaction) else {
-            return Answer::Refused(Refusal::Unknown);
+        let Some(place) = session::find_transaction(session, transaction) else {
+            return Err(Refusal::Unknown);
         };
         drop_at(disk, session, place);
-        return Answer::Done(0);
+        return Ok(0);
     }
-    Answer::Refused(Refusal::Unusable)
+    Err(Refusal::Unusable)
 }

@@ -1,13 +1,11 @@
 // The list that a commit publishes, by name in byte order.
 ghost use Rattle.std.specs.Prelude.{◌≡◌, ℕ, ◌≤◌, ◌<◌};
-ghost use Rattle.octets.specs.declared.Found.TheVariants.{At};
 ghost use Rattle.metadata.specs.Struct.{meaning, stored, list_of};
 ghost use Rattle.layout.specs.Session.{Begun};
 ghost use Rattle.ending.specs.Listing.{is_touched, published, is_less, is_next, next_behind, tape_in, next_list};
 
 use layout::Session;
 use metadata::{TapeList, TapeMetadata};
-use octets::Found;
 use session::View;
 
 // Whether the writer touched an open tape.
@@ -32,7 +30,7 @@ pub fn published_view(session: &[u8], cut: bool, tape: usize) -> View
         let staged = session::get_staged(session, tape);
         let mut start = staged.start;
         if cut {
-            start = octets::smaller(staged.start as usize, staged.len as usize) as u64;
+            start = staged.start.min(staged.len);
         }
         return View {
             listed: true,
@@ -44,22 +42,22 @@ pub fn published_view(session: &[u8], cut: bool, tape: usize) -> View
 }
 
 // Whether a tape's name comes before that of the best so far.
-fn is_less(session: &[u8], tape: usize, best: Found) -> bool
-    requires { Begun session.now × ((tape < 8) × ((p : ℕ) → best ≡ At p → p < 8)) }
+fn is_less(session: &[u8], tape: usize, best: Option<usize>) -> bool
+    requires { Begun session.now × ((tape < 8) × ((p : ℕ) → best ≡ Some p → p < 8)) }
     ensures { result ≡ is_less session.now tape best }
 {
     match best {
-        Found::At(other) => octets::comes_before(
+        Some(other) => octets::comes_before(
             session::tape_name(session, tape),
             session::tape_name(session, other),
         ),
-        Found::Nothing => true,
+        None => true,
     }
 }
 
 // Whether a tape is published, its name comes behind one, and before that of the best so far.
-fn is_next(session: &[u8], cut: bool, before: &[u8], best: Found, tape: usize) -> bool
-    requires { Begun session.now × ((tape < 8) × ((p : ℕ) → best ≡ At p → p < 8)) }
+fn is_next(session: &[u8], cut: bool, before: &[u8], best: Option<usize>, tape: usize) -> bool
+    requires { Begun session.now × ((tape < 8) × ((p : ℕ) → best ≡ Some p → p < 8)) }
     ensures { result ≡ is_next session.now cut before.now best tape }
 {
     let view = published_view(session, cut, tape);
@@ -72,25 +70,21 @@ fn is_next(session: &[u8], cut: bool, before: &[u8], best: Found, tape: usize) -
 }
 
 // The tape whose name is the least behind a name.
-fn next_behind(session: &[u8], cut: bool, before: &[u8]) -> Found
+fn next_behind(session: &[u8], cut: bool, before: &[u8]) -> Option<usize>
     requires { Begun session.now }
     ensures { result ≡ next_behind session.now cut before.now }
 {
-    let mut best = Found::Nothing;
-    let mut i = 0;
-    while i < Session::MOST_TAPES {
+    let mut best = None;
+    for i in 0..Session::MOST_TAPES {
         if is_next(session, cut, before, best, i) {
-            best = Found::At(i);
-            i += 1;
-        } else {
-            i += 1;
+            best = Some(i);
         }
     }
     best
 }
 
 // The same behind the name of a tape of the list.
-fn next_after(session: &[u8], cut: bool, before: TapeMetadata) -> Found
+fn next_after(session: &[u8], cut: bool, before: TapeMetadata) -> Option<usize>
     requires { Begun session.now × (before.letters ≤ 24) }
     ensures { result ≡ next_behind session.now cut (meaning before).name }
 {
@@ -122,9 +116,8 @@ pub fn next_list(session: &[u8], cut: bool) -> TapeList
 {
     let mut tapes = [TapeMetadata::blank(); 8];
     let mut before = TapeMetadata::blank();
-    let mut i = 0;
-    while i < TapeList::MOST_NAMES {
-        let Found::At(tape) = next_after(session, cut, before) else {
+    for i in 0..TapeList::MOST_NAMES {
+        let Some(tape) = next_after(session, cut, before) else {
             return TapeList {
                 count: i,
                 tapes: tapes,
@@ -132,7 +125,6 @@ pub fn next_list(session: &[u8], cut: bool) -> TapeList
         };
         before = tape_in(session, cut, tape);
         tapes[i] = before;
-        i += 1;
     }
     TapeList {
         count: i,

@@ -21,7 +21,7 @@ pub fn oldest_of(session: &[u8]) -> u64
         if beginning::is_open(session, left) {
             let row = session::get_transaction(session, left);
             if any {
-                oldest = octets::smaller(row.epoch as usize, oldest as usize) as u64;
+                oldest = row.epoch.min(oldest);
             } else {
                 oldest = row.epoch;
                 any = true;

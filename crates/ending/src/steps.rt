@@ -10,7 +10,6 @@ ghost use Rattle.ending.specs.Steps.{flush_tape, flush_all, publish_tape, publis
 use crate::listing::{is_touched, published_view};
 use layout::Session;
 use metadata::{Encoded, Side, TapeList};
-use octets::Found;
 use rolling_tape::Change;
 use session::{Head, Staged, Transaction};
 
@@ -22,7 +21,7 @@ fn flush_tape(disk: &mut [u8], session: &mut [u8], tape: usize)
 {
     if is_touched(session, tape) {
         let name = session::tape_name(session, tape);
-        let Found::At(place) = disk::find_directory(disk, name) else {
+        let Some(place) = disk::find_directory(disk, name) else {
             return;
         };
         let row = session::get_staged(session, tape);
@@ -34,10 +33,8 @@ pub fn flush_all(disk: &mut [u8], session: &mut [u8])
     requires { Sound disk.old × Begun session.old }
     ensures { flush_all (areas disk.old session.old) ≡ areas disk.new session.new }
 {
-    let mut i = 0;
-    while i < Session::MOST_TAPES {
+    for i in 0..Session::MOST_TAPES {
         flush_tape(disk, session, i);
-        i += 1;
     }
 }
 
@@ -55,10 +52,8 @@ pub fn publish_all(session: &mut [u8], cut: bool)
     requires { Begun session.old }
     ensures { session.new ≡ publish_all cut session.old }
 {
-    let mut i = 0;
-    while i < Session::MOST_TAPES {
+    for i in 0..Session::MOST_TAPES {
         publish_tape(session, cut, i);
-        i += 1;
     }
 }
 
@@ -115,7 +110,7 @@ fn ripen_tape(disk: &mut [u8], session: &mut [u8], began: u64, oldest: u64, tape
 {
     if is_touched(session, tape) {
         let name = session::tape_name(session, tape);
-        let Found::At(place) = disk::find_directory(disk, name) else {
+        let Some(place) = disk::find_directory(disk, name) else {
             return;
         };
         let handle = session::get_handle(session, tape);
@@ -138,10 +133,8 @@ pub fn ripen_all(disk: &mut [u8], session: &mut [u8], began: u64, oldest: u64)
     requires { Sound disk.old × Begun session.old }
     ensures { ripen_all began oldest (areas disk.old session.old) ≡ areas disk.new session.new }
 {
-    let mut i = 0;
-    while i < Session::MOST_TAPES {
+    for i in 0..Session::MOST_TAPES {
         ripen_tape(disk, session, began, oldest, i);
-        i += 1;
     }
 }
 
@@ -169,7 +162,7 @@ fn cut_tape(disk: &[u8], session: &mut [u8], tape: usize)
         let staged = session::get_staged(session, tape);
         let first = components::file_of(handle.file_size, staged.len);
         cut_ring(session, tape);
-        let Found::At(place) = found else {
+        let Some(place) = found else {
             return;
         };
         rolling_tape::retrack(disk, session, place, Change::ClearFrom(first));
@@ -180,10 +173,8 @@ pub fn cut_all(disk: &[u8], session: &mut [u8])
     requires { Sound disk.now × Begun session.old }
     ensures { session.new ≡ cut_all disk.now session.old }
 {
-    let mut i = 0;
-    while i < Session::MOST_TAPES {
+    for i in 0..Session::MOST_TAPES {
         cut_tape(disk, session, i);
-        i += 1;
     }
 }
 
@@ -201,10 +192,8 @@ pub fn close_writer(session: &mut [u8])
     requires { session_bytes ≤ length session.old }
     ensures { session.new ≡ close_writer session.old }
 {
-    let mut i = 0;
-    while i < Session::MOST_TAPES {
+    for i in 0..Session::MOST_TAPES {
         unstage_tape(session, i);
-        i += 1;
     }
     session::put_transaction(session, Session::WRITER, Transaction::closed());
 }

@@ -1,21 +1,16 @@
 -- Laws of the calls that read: the contracts leave nothing open, a refused call and one that has no entry change nothing, what is served is all that is
 -- written, and a pop keeps the layout rule. Assumes nothing.
 use Rattle.std.proofs.Math.Path.{◌≡◌}
-use Rattle.std.specs.Prelude.{refl, ◌≢◌, false, List, ℕ, ◌*◌, ◌-◌, ◌/◌, ◌≤◌, ◌<◌, eqb, leb, length, take, drop}
+use Rattle.std.specs.Prelude.{refl, ◌≢◌, false, List, ℕ, ◌*◌, ◌-◌, ◌/◌, ◌≤◌, ◌<◌, eqb, leb, length, take, drop, Option, Some, None, Ok, Err}
 use Rattle.std.proofs.Common.{sym, ap, ◌∙◌, arith}
 use Rattle.std.proofs.Math.Bool.{true}
 use borrow.Author.Tests.{leb-true, eqb-false}
 use Rattle.octets.specs.Bytes.{put, length-put, part-put, drop-put-above}
 use Rattle.octets.specs.Cases.{picked}
-use Rattle.octets.specs.declared.Found.{Found}
-use Rattle.octets.specs.declared.Found.TheVariants.{At, Nothing}
 use Rattle.answers.specs.Answers.{code_of, entry_code_of}
 use Rattle.answers.specs.Outcome.{Reading, reading, refused_read, Entering, entering, Popping, popping}
-use Rattle.answers.specs.declared.Answer.{Answer}
-use Rattle.answers.specs.declared.Answer.TheVariants.{Done, Refused}
-use Rattle.answers.specs.declared.OneEntry.{OneEntry}
-use Rattle.answers.specs.declared.OneEntry.TheVariants.{Entry, NoEntry}
-use Rattle.answers.specs.declared.OneEntry.TheVariants as One
+use Rattle.answers.specs.Answers.{Answer}
+use Rattle.answers.specs.Answers.{OneEntry}
 use Rattle.answers.specs.declared.Refusal.{Refusal}
 use Rattle.answers.specs.declared.Refusal.TheVariants.{Unusable, Unknown, WriterOpen, Wait, Full, BadName, ReservedName, BadSize, AlreadyOpen, NotWhole, Absent, OutOfBounds, StartPastLength, LongerCut, NoSlot, Missing, BadList, TooLarge}
 use Rattle.components.specs.Bounds.{in_bounds}
@@ -57,16 +52,16 @@ module _ (d s : List ℕ) (t h : ℕ) (out : List ℕ) (u v : List ℕ) where
 pub exists-unique : (d s : List ℕ) (t : ℕ) (wanted : List ℕ) (r r' : Answer) → r ≡ exists_call d s t wanted → r' ≡ exists_call d s t wanted → r ≡ r'
 exists-unique d s t wanted r r' e f = e ∙ sym f
 
-entry-some : (i : ℕ) → Entry i ≢ NoEntry
+entry-some : (i : ℕ) → Ok (Some i) ≢ (Ok None)
 entry-some i e = let z : ◌≡◌ {A = ℕ} 0 1 = cc in omega arith
 
 -- ---- a read of one that is refused has no entry
 
 -- the refusal that an answer stands for
 abbrev refusal_of : OneEntry → Refusal
-refusal_of (Entry i) = Unusable
-refusal_of NoEntry = OutOfBounds
-refusal_of (One.Refused why) = why
+refusal_of (Ok (Some i)) = Unusable
+refusal_of (Ok None) = OutOfBounds
+refusal_of (Err why) = why
 
 refusal-back : (why : Refusal) → refusal_of (none_for why) ≡ why
 refusal-back Unusable = refl
@@ -88,10 +83,10 @@ refusal-back Missing = refl
 refusal-back BadList = refl
 refusal-back TooLarge = refl
 
-none-entry : (why : Refusal) (i : ℕ) → none_for why ≢ Entry i
+none-entry : (why : Refusal) (i : ℕ) → none_for why ≢ Ok (Some i)
 none-entry why i e =
     let first : why ≡ Unusable = sym (refusal-back why) ∙ ap refusal_of e in
-    let same : One.Refused Unusable ≡ Entry i = sym (ap none_for first) ∙ e in
+    let same : Err Unusable ≡ Ok (Some i) = sym (ap none_for first) ∙ e in
     let z : ◌≡◌ {A = ℕ} 0 1 = cc in
     omega arith
 
@@ -107,8 +102,8 @@ pub record Inside (d s : List ℕ) (x p i n : ℕ) (out : List ℕ) : Type 0 whe
 -- and what the call has found before
 pub record Readable (d s : List ℕ) (t h i n : ℕ) (out : List ℕ) (x p : ℕ) : Type 0 where
   pub sound : usable d s ≡ true
-  pub transaction : find_transaction s t ≡ At x
-  pub found : find_handle s h ≡ At p
+  pub transaction : find_transaction s t ≡ Some x
+  pub found : find_handle s h ≡ Some p
   pub inside : Inside d s x p i n out
 
 -- the buffer with n entries from index i on
@@ -116,7 +111,7 @@ abbrev pub filled : List ℕ → List ℕ → ℕ → ℕ → ℕ → List ℕ �
 filled d s p i n out = put out 0 (served d s p (i * entry_size_of s p) (n * entry_size_of s p))
 
 module _ (P : Reading → Type 0) (d s : List ℕ) (i n : ℕ) (out : List ℕ) (no : (why : Refusal) → P (refused_read why out)) where
-  pub read-on-cases : (x p : ℕ) → (Inside d s x p i n out → P (reading (Done n) (filled d s p i n out))) → P (read_on d s x p i n out)
+  pub read-on-cases : (x p : ℕ) → (Inside d s x p i n out → P (reading (Ok n) (filled d s p i n out))) → P (read_on d s x p i n out)
   unfolding read_on serve_on
   read-on-cases x p goes =
       picked P (seen_by s x p).listed _ _
@@ -132,21 +127,21 @@ module _ (P : Reading → Type 0) (d s : List ℕ) (i n : ℕ) (out : List ℕ) 
       (λ w. no OutOfBounds))
       (λ l. no Absent)
 
-  pub read-cases : (t h : ℕ) → ((x p : ℕ) → Readable d s t h i n out x p → P (reading (Done n) (filled d s p i n out))) → P (read_call d s t h i n out)
+  pub read-cases : (t h : ℕ) → ((x p : ℕ) → Readable d s t h i n out x p → P (reading (Ok n) (filled d s p i n out))) → P (read_call d s t h i n out)
   unfolding read_call
   read-cases t h goes = picked P (usable d s) _ _ (λ ok. seen ok (find_transaction s t) refl) (λ ok. no Unusable)
     where
-      on : usable d s ≡ true → (x : ℕ) → find_transaction s t ≡ At x → (q : Found) → find_handle s h ≡ q → P (read_in d s x i n out q)
-      on ok x e (At p) f = read-on-cases x p (λ g. goes x p (record { sound = ok; transaction = e; found = f; inside = g }))
-      on ok x e Nothing f = no Unknown
+      on : usable d s ≡ true → (x : ℕ) → find_transaction s t ≡ Some x → (q : Option ℕ) → find_handle s h ≡ q → P (read_in d s x i n out q)
+      on ok x e (Some p) f = read-on-cases x p (λ g. goes x p (record { sound = ok; transaction = e; found = f; inside = g }))
+      on ok x e None f = no Unknown
 
-      seen : usable d s ≡ true → (q : Found) → find_transaction s t ≡ q → P (read_as d s h i n out q)
-      seen ok (At x) e = on ok x e (find_handle s h) refl
-      seen ok Nothing e = no Unknown
+      seen : usable d s ≡ true → (q : Option ℕ) → find_transaction s t ≡ q → P (read_as d s h i n out q)
+      seen ok (Some x) e = on ok x e (find_handle s h) refl
+      seen ok None e = no Unknown
 
 -- an entry is a read of one
 pub entry-cases : (P : Entering → Type 0) (d s : List ℕ) (t h i : ℕ) (out : List ℕ) → ((why : Refusal) → P (entering (none_for why) out))
-    → ((x p : ℕ) → Readable d s t h i 1 out x p → P (entering (Entry i) (filled d s p i 1 out))) → P (entry_call d s t h i out)
+    → ((x p : ℕ) → Readable d s t h i 1 out x p → P (entering (Ok (Some i)) (filled d s p i 1 out))) → P (entry_call d s t h i out)
 unfolding entry_call
 entry-cases P d s t h i out left goes = read-cases (λ (o : Reading). P (entering (one_of i o.answer) o.buffer)) d s i 1 out left t h goes
 
@@ -158,7 +153,7 @@ last s p = (seen_by s 16 p).len / entry_size_of s p - 1
 pub record Poppable (d s : List ℕ) (t h : ℕ) (out : List ℕ) (p : ℕ) : Type 0 where
   pub sound : usable d s ≡ true
   pub writer : cuts s t ≡ true
-  pub found : find_handle s h ≡ At p
+  pub found : find_handle s h ≡ Some p
   pub some : (seen_by s 16 p).len / entry_size_of s p ≢ 0
   pub inside : Inside d s 16 p (last s p) 1 out
 
@@ -167,22 +162,22 @@ abbrev pub popped : List ℕ → ℕ → List ℕ
 popped s p = cut_to s p (last s p * entry_size_of s p)
 
 -- a pop that changes nothing has no entry
-module _ (P : Popping → Type 0) (d s : List ℕ) (t h : ℕ) (out : List ℕ) (no : (a : OneEntry) → ((i : ℕ) → a ≢ Entry i) → P (popping a s out)) where
-  pub pop-cases : ((p : ℕ) → Poppable d s t h out p → P (popping (Entry (last s p)) (popped s p) (filled d s p (last s p) 1 out))) → P (pop_call d s t h out)
+module _ (P : Popping → Type 0) (d s : List ℕ) (t h : ℕ) (out : List ℕ) (no : (a : OneEntry) → ((i : ℕ) → a ≢ Ok (Some i)) → P (popping a s out)) where
+  pub pop-cases : ((p : ℕ) → Poppable d s t h out p → P (popping (Ok (Some (last s p))) (popped s p) (filled d s p (last s p) 1 out))) → P (pop_call d s t h out)
   unfolding pop_call pop_on pop_at
   pop-cases goes =
       picked P (usable d s) _ _
       (λ ok. picked P (cuts s t) _ _ (λ w. on ok w (find_handle s h) refl) (λ w. refused Unknown))
       (λ ok. refused Unusable)
     where
-      refused : (why : Refusal) → P (popping (One.Refused why) s out)
-      refused why = no (One.Refused why) (λ i e. let z : ◌≡◌ {A = ℕ} 0 1 = cc in omega arith)
+      refused : (why : Refusal) → P (popping (Err why) s out)
+      refused why = no (Err why) (λ i e. let z : ◌≡◌ {A = ℕ} 0 1 = cc in omega arith)
 
-      nothing : P (popping NoEntry s out)
-      nothing = no NoEntry (λ i e. entry-some i (sym e))
+      nothing : P (popping (Ok None) s out)
+      nothing = no (Ok None) (λ i e. entry-some i (sym e))
 
-      on : usable d s ≡ true → cuts s t ≡ true → (q : Found) → find_handle s h ≡ q → P (pop_in d s out q)
-      on ok w (At p) e =
+      on : usable d s ≡ true → cuts s t ≡ true → (q : Option ℕ) → find_handle s h ≡ q → P (pop_in d s out q)
+      on ok w (Some p) e =
           picked P (seen_by s 16 p).listed _ _
           (λ l.
           picked P (eqb ((seen_by s 16 p).len / entry_size_of s p) 0) _ _
@@ -192,27 +187,27 @@ module _ (P : Popping → Type 0) (d s : List ℕ) (t h : ℕ) (out : List ℕ) 
           read-on-cases (λ (o : Reading). P (cut_at s p (last s p) o.buffer o.answer)) d s (last s p) 1 out (λ why. no (none_for why) (none-entry why)) 16 p
           (λ g. goes p (record { sound = ok; writer = w; found = e; some = none; inside = g }))))
           (λ l. nothing)
-      on ok w Nothing e = refused Unknown
+      on ok w None e = refused Unknown
 
 -- ---- a call that has found all is served
 
-pub read_done : (d s : List ℕ) (t h i n : ℕ) (out : List ℕ) (x p : ℕ) → Readable d s t h i n out x p → read_call d s t h i n out ≡ reading (Done n) (filled d s p i n out)
+pub read_done : (d s : List ℕ) (t h i n : ℕ) (out : List ℕ) (x p : ℕ) → Readable d s t h i n out x p → read_call d s t h i n out ≡ reading (Ok n) (filled d s p i n out)
 read_done d s t h i n out x p g =
     let k = g.inside in
     read_goes d s t h i n out g.sound x g.transaction p g.found
     ∙ read-room d s x p i n out (seen_by s x p) refl (entry_size_of s p) refl k.listed k.within k.room
     ∙ serve-can d s p i n out (entry_size_of s p) refl k.there
 
-pub entry_done : (d s : List ℕ) (t h i : ℕ) (out : List ℕ) (x p : ℕ) → Readable d s t h i 1 out x p → entry_call d s t h i out ≡ entering (Entry i) (filled d s p i 1 out)
-entry_done d s t h i out x p g = entry_read d s t h i out (Done 1) (filled d s p i 1 out) (Entry i) (read_done d s t h i 1 out x p g) refl
+pub entry_done : (d s : List ℕ) (t h i : ℕ) (out : List ℕ) (x p : ℕ) → Readable d s t h i 1 out x p → entry_call d s t h i out ≡ entering (Ok (Some i)) (filled d s p i 1 out)
+entry_done d s t h i out x p g = entry_read d s t h i out (Ok 1) (filled d s p i 1 out) (Ok (Some i)) (read_done d s t h i 1 out x p g) refl
 
-pub pop-done : (d s : List ℕ) (t h : ℕ) (out : List ℕ) (p : ℕ) → Poppable d s t h out p → pop_call d s t h out ≡ popping (Entry (last s p)) (popped s p) (filled d s p (last s p) 1 out)
+pub pop-done : (d s : List ℕ) (t h : ℕ) (out : List ℕ) (p : ℕ) → Poppable d s t h out p → pop_call d s t h out ≡ popping (Ok (Some (last s p))) (popped s p) (filled d s p (last s p) 1 out)
 pop-done d s t h out p g =
     let k = g.inside in
     let i = last s p in
     let b = filled d s p i 1 out in
     let e = entry_size_of s p in
-    let read : read_on d s 16 p i 1 out ≡ reading (Done 1) b
+    let read : read_on d s 16 p i 1 out ≡ reading (Ok 1) b
     = read-room d s 16 p i 1 out (seen_by s 16 p) refl e refl k.listed k.within k.room
     ∙ serve-can d s p i 1 out e refl k.there in
     pop_goes d s t h out g.sound g.writer p g.found
@@ -240,8 +235,8 @@ module _ (d s : List ℕ) (t h i : ℕ) (out : List ℕ) where
   pub entry-refused : entry_code_of (entry_call d s t h i out).answer ≢ 0 → (entry_call d s t h i out).buffer ≡ out
   entry-refused = entry-cases (λ (o : Entering). entry_code_of o.answer ≢ 0 → o.buffer ≡ out) d s t h i out (λ why r. refl) (λ x p g r. absurd (r refl))
 
-  pub entry-none : (entry_call d s t h i out).answer ≡ NoEntry → (entry_call d s t h i out).buffer ≡ out
-  entry-none = entry-cases (λ (o : Entering). o.answer ≡ NoEntry → o.buffer ≡ out) d s t h i out (λ why r. refl) (λ x p g r. absurd (entry-some i r))
+  pub entry-none : (entry_call d s t h i out).answer ≡ (Ok None) → (entry_call d s t h i out).buffer ≡ out
+  entry-none = entry-cases (λ (o : Entering). o.answer ≡ (Ok None) → o.buffer ≡ out) d s t h i out (λ why r. refl) (λ x p g r. absurd (entry-some i r))
 
 module _ (d s : List ℕ) (t h : ℕ) (out : List ℕ) where
   -- both areas that are lent to be written
@@ -251,33 +246,33 @@ module _ (d s : List ℕ) (t h : ℕ) (out : List ℕ) where
   pub pop-refused : entry_code_of (pop_call d s t h out).answer ≢ 0 → ((pop_call d s t h out).session ≡ s) × ((pop_call d s t h out).buffer ≡ out)
   pop-refused = pop-cases (λ (o : Popping). entry_code_of o.answer ≢ 0 → Kept o) d s t h out (λ a none r. (refl, refl)) (λ p g r. absurd (r refl))
 
-  pub pop-none : (pop_call d s t h out).answer ≡ NoEntry → ((pop_call d s t h out).session ≡ s) × ((pop_call d s t h out).buffer ≡ out)
-  pop-none = pop-cases (λ (o : Popping). o.answer ≡ NoEntry → Kept o) d s t h out (λ a none r. (refl, refl)) (λ p g r. absurd (entry-some (last s p) r))
+  pub pop-none : (pop_call d s t h out).answer ≡ (Ok None) → ((pop_call d s t h out).session ≡ s) × ((pop_call d s t h out).buffer ≡ out)
+  pop-none = pop-cases (λ (o : Popping). o.answer ≡ (Ok None) → Kept o) d s t h out (λ a none r. (refl, refl)) (λ p g r. absurd (entry-some (last s p) r))
 
 -- ---- "Reading one entry answers none for 12 only"
 
-pub none_only : (d s : List ℕ) (t h i : ℕ) (out : List ℕ) → (entry_call d s t h i out).answer ≡ NoEntry → (read_call d s t h i 1 out).answer ≡ Refused OutOfBounds
+pub none_only : (d s : List ℕ) (t h i : ℕ) (out : List ℕ) → (entry_call d s t h i out).answer ≡ (Ok None) → (read_call d s t h i 1 out).answer ≡ Err OutOfBounds
 unfolding entry_call
 none_only d s t h i out =
-    read-cases (λ (o : Reading). one_of i o.answer ≡ NoEntry → o.answer ≡ Refused OutOfBounds) d s i 1 out
-    (λ why e. ap Refused (sym (refusal-back why) ∙ ap refusal_of e))
+    read-cases (λ (o : Reading). one_of i o.answer ≡ (Ok None) → o.answer ≡ Err OutOfBounds) d s i 1 out
+    (λ why e. ap Err (sym (refusal-back why) ∙ ap refusal_of e))
     t h
     (λ x p g e. absurd (entry-some i e))
 
-pub none-outside : (d s : List ℕ) (t h i : ℕ) (out : List ℕ) → read_call d s t h i 1 out ≡ refused_read OutOfBounds out → entry_call d s t h i out ≡ entering NoEntry out
-none-outside d s t h i out e = entry_read d s t h i out (Refused OutOfBounds) out NoEntry e refl
+pub none-outside : (d s : List ℕ) (t h i : ℕ) (out : List ℕ) → read_call d s t h i 1 out ≡ refused_read OutOfBounds out → entry_call d s t h i out ≡ entering (Ok None) out
+none-outside d s t h i out e = entry_read d s t h i out (Err OutOfBounds) out (Ok None) e refl
 
 -- ---- "Pop answers none for an absent or empty tape or an entry below start"
 
-module _ (d s : List ℕ) (t h : ℕ) (out : List ℕ) (ok : usable d s ≡ true) (writer : cuts s t ≡ true) (p : ℕ) (found : find_handle s h ≡ At p) where
-  pub pop-of-absent : (seen_by s 16 p).listed ≡ false → pop_call d s t h out ≡ popping NoEntry s out
+module _ (d s : List ℕ) (t h : ℕ) (out : List ℕ) (ok : usable d s ≡ true) (writer : cuts s t ≡ true) (p : ℕ) (found : find_handle s h ≡ Some p) where
+  pub pop-of-absent : (seen_by s 16 p).listed ≡ false → pop_call d s t h out ≡ popping (Ok None) s out
   pop-of-absent l = pop_goes d s t h out ok writer p found ∙ pop-absent d s p out (seen_by s 16 p) refl l
 
   module _ (listed : (seen_by s 16 p).listed ≡ true) where
-    pub pop-of-empty : (seen_by s 16 p).len / entry_size_of s p ≡ 0 → pop_call d s t h out ≡ popping NoEntry s out
+    pub pop-of-empty : (seen_by s 16 p).len / entry_size_of s p ≡ 0 → pop_call d s t h out ≡ popping (Ok None) s out
     pop-of-empty z = pop_goes d s t h out ok writer p found ∙ pop-empty d s p out (seen_by s 16 p) refl (entry_size_of s p) refl listed z
 
-    pub pop-of-below : (seen_by s 16 p).len / entry_size_of s p ≢ 0 → last s p * entry_size_of s p < (seen_by s 16 p).start → pop_call d s t h out ≡ popping NoEntry s out
+    pub pop-of-below : (seen_by s 16 p).len / entry_size_of s p ≢ 0 → last s p * entry_size_of s p < (seen_by s 16 p).start → pop_call d s t h out ≡ popping (Ok None) s out
     pop-of-below some low =
         let e = entry_size_of s p in
         let i = last s p in

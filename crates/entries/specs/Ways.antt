@@ -1,13 +1,10 @@
 -- The ways out of each function, in the code's order: a law for each. Assumes nothing.
-use Rattle.std.specs.Prelude.{◌≡◌, ◌≢◌, true, false, List, ℕ, ◌*◌, ◌-◌, ◌/◌, ◌≤◌, ◌<◌, length}
+use Rattle.std.specs.Prelude.{◌≡◌, ◌≢◌, true, false, List, ℕ, ◌*◌, ◌-◌, ◌/◌, ◌≤◌, ◌<◌, length, Some, None, Ok, Err}
 use borrow.Author.Tests.{eq-eqb, ne_eqb, le-leb, lt-leb}
 use Rattle.octets.specs.Bytes.{put}
-use Rattle.octets.specs.declared.Found.TheVariants.{At, Nothing}
 use Rattle.answers.specs.Outcome.{reading, refused_read, entering, popping, refused_pop}
-use Rattle.answers.specs.declared.Answer.{Answer}
-use Rattle.answers.specs.declared.Answer.TheVariants.{Done, Refused}
-use Rattle.answers.specs.declared.OneEntry.{OneEntry}
-use Rattle.answers.specs.declared.OneEntry.TheVariants.{Entry, NoEntry}
+use Rattle.answers.specs.Answers.{Answer}
+use Rattle.answers.specs.Answers.{OneEntry}
 use Rattle.answers.specs.declared.Refusal.{Refusal}
 use Rattle.answers.specs.declared.Refusal.TheVariants.{Unusable, Unknown, NotWhole, Absent, OutOfBounds, Missing}
 use Rattle.components.specs.Bounds.{in_bounds}
@@ -31,7 +28,7 @@ module _ (d s : List ℕ) (p i n : ℕ) (out : List ℕ) (e : ℕ) (size : e ≡
   unfolding serve_on
   serve-missing h = rw (← size, h)
 
-  pub serve-can : can_serve d s p (i * e) (n * e) ≡ true → serve_on d s p i n out ≡ reading (Done n) (put out 0 (served d s p (i * e) (n * e)))
+  pub serve-can : can_serve d s p (i * e) (n * e) ≡ true → serve_on d s p i n out ≡ reading (Ok n) (put out 0 (served d s p (i * e) (n * e)))
   unfolding serve_on
   serve-can h = rw (← size, h)
 
@@ -62,16 +59,16 @@ module _ (d s : List ℕ) (t h i n : ℕ) (out : List ℕ) where
   read-unusable e = rw e
 
   module _ (ok : usable d s ≡ true) where
-    pub read-no-transaction : find_transaction s t ≡ Nothing → read_call d s t h i n out ≡ refused_read Unknown out
+    pub read-no-transaction : find_transaction s t ≡ None → read_call d s t h i n out ≡ refused_read Unknown out
     unfolding read_call
     read-no-transaction e = rw (ok, e)
 
-    module _ (x : ℕ) (there : find_transaction s t ≡ At x) where
-      pub read-no-handle : find_handle s h ≡ Nothing → read_call d s t h i n out ≡ refused_read Unknown out
+    module _ (x : ℕ) (there : find_transaction s t ≡ Some x) where
+      pub read-no-handle : find_handle s h ≡ None → read_call d s t h i n out ≡ refused_read Unknown out
       unfolding read_call
       read-no-handle e = rw (ok, there, e)
 
-      pub read_goes : (p : ℕ) → find_handle s h ≡ At p → read_call d s t h i n out ≡ read_on d s x p i n out
+      pub read_goes : (p : ℕ) → find_handle s h ≡ Some p → read_call d s t h i n out ≡ read_on d s x p i n out
       unfolding read_call
       read_goes p e = rw (ok, there, e)
 
@@ -88,17 +85,17 @@ module _ (d s : List ℕ) (p i : ℕ) (out : List ℕ) (b : List ℕ) where
   unfolding pop_at
   pop-unread why h = rw h
 
-  pub pop-read : (n e : ℕ) → e ≡ entry_size_of s p → read_on d s 16 p i 1 out ≡ reading (Done n) b → pop_at d s p i out ≡ popping (Entry i) (cut_to s p (i * e)) b
+  pub pop-read : (n e : ℕ) → e ≡ entry_size_of s p → read_on d s 16 p i 1 out ≡ reading (Ok n) b → pop_at d s p i out ≡ popping (Ok (Some i)) (cut_to s p (i * e)) b
   unfolding pop_at
   pop-read n e size h = rw (h, ← size)
 
 module _ (d s : List ℕ) (p : ℕ) (out : List ℕ) (v : View) (seen : v ≡ seen_by s 16 p) where
-  pub pop-absent : v.listed ≡ false → pop_on d s p out ≡ popping NoEntry s out
+  pub pop-absent : v.listed ≡ false → pop_on d s p out ≡ popping (Ok None) s out
   unfolding pop_on
   pop-absent h = rw (← seen, h)
 
   module _ (e : ℕ) (size : e ≡ entry_size_of s p) (listed : v.listed ≡ true) where
-    pub pop-empty : v.len / e ≡ 0 → pop_on d s p out ≡ popping NoEntry s out
+    pub pop-empty : v.len / e ≡ 0 → pop_on d s p out ≡ popping (Ok None) s out
     unfolding pop_on
     pop-empty h = rw (← seen, ← size, listed, eq-eqb (v.len / e) 0 h)
 
@@ -117,11 +114,11 @@ module _ (d s : List ℕ) (t h : ℕ) (out : List ℕ) where
     pop-no-truncate e = rw (ok, e)
 
     module _ (there : cuts s t ≡ true) where
-      pub pop-no-handle : find_handle s h ≡ Nothing → pop_call d s t h out ≡ refused_pop Unknown s out
+      pub pop-no-handle : find_handle s h ≡ None → pop_call d s t h out ≡ refused_pop Unknown s out
       unfolding pop_call
       pop-no-handle e = rw (ok, there, e)
 
-      pub pop_goes : (p : ℕ) → find_handle s h ≡ At p → pop_call d s t h out ≡ pop_on d s p out
+      pub pop_goes : (p : ℕ) → find_handle s h ≡ Some p → pop_call d s t h out ≡ pop_on d s p out
       unfolding pop_call
       pop_goes p e = rw (ok, there, e)
 
@@ -133,29 +130,29 @@ module _ (s wanted : List ℕ) where
   sees-no-name h = rw h
 
   module _ (named : name_rule wanted ≡ true) where
-    pub sees-nothing : find_name s names_at wanted ≡ Nothing → sees s wanted ≡ false
+    pub sees-nothing : find_name s names_at wanted ≡ None → sees s wanted ≡ false
     unfolding sees
     sees-nothing h = rw (named, h)
 
-    pub sees-at : (p : ℕ) → find_name s names_at wanted ≡ At p → sees s wanted ≡ (seen_by s 16 p).listed
+    pub sees-at : (p : ℕ) → find_name s names_at wanted ≡ Some p → sees s wanted ≡ (seen_by s 16 p).listed
     unfolding sees
     sees-at p h = rw (named, h)
 
 module _ (d s : List ℕ) (t : ℕ) (wanted : List ℕ) where
-  pub exists-unusable : usable d s ≡ false → exists_call d s t wanted ≡ Refused Unusable
+  pub exists-unusable : usable d s ≡ false → exists_call d s t wanted ≡ Err Unusable
   unfolding exists_call
   exists-unusable e = rw e
 
   module _ (ok : usable d s ≡ true) where
-    pub exists-no-append : writes s t ≡ false → exists_call d s t wanted ≡ Refused Unknown
+    pub exists-no-append : writes s t ≡ false → exists_call d s t wanted ≡ Err Unknown
     unfolding exists_call
     exists-no-append e = rw (ok, e)
 
     module _ (there : writes s t ≡ true) where
-      pub exists-yes : sees s wanted ≡ true → exists_call d s t wanted ≡ Done 1
+      pub exists-yes : sees s wanted ≡ true → exists_call d s t wanted ≡ Ok 1
       unfolding exists_call
       exists-yes e = rw (ok, there, e)
 
-      pub exists-no : sees s wanted ≡ false → exists_call d s t wanted ≡ Done 0
+      pub exists-no : sees s wanted ≡ false → exists_call d s t wanted ≡ Ok 0
       unfolding exists_call
       exists-no e = rw (ok, there, e)

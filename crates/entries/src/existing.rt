@@ -3,16 +3,15 @@ ghost use Rattle.std.specs.Prelude.{◌≡◌};
 ghost use Rattle.layout.specs.Session.{Begun};
 ghost use Rattle.entries.specs.Existing.{sees, exists_call};
 
-use answers::{Answer, Refusal};
+use answers::Refusal;
 use layout::Session;
-use octets::Found;
 
 fn is_seen(session: &[u8], name: &[u8]) -> bool
     requires { Begun session.now }
     ensures { result ≡ sees session.now name.now }
 {
     if metadata::is_name(name) {
-        let Found::At(tape) = session::find_tape(session, name) else {
+        let Some(tape) = session::find_tape(session, name) else {
             return false;
         };
         let seen = staging::seen_by(session, Session::WRITER, tape);
@@ -22,17 +21,17 @@ fn is_seen(session: &[u8], name: &[u8]) -> bool
 }
 
 // Answers 1 if the append sees a tape of this name, else 0. Refused: 1, 2.
-pub fn tape_exists(disk: &[u8], session: &[u8], transaction: u64, name: &[u8]) -> Answer
+pub fn tape_exists(disk: &[u8], session: &[u8], transaction: u64, name: &[u8]) -> Result<u64, Refusal>
     ensures { result ≡ exists_call disk.now session.now transaction name.now }
 {
     if beginning::is_usable(disk, session) {
         if staging::is_writing(session, transaction) {
             if is_seen(session, name) {
-                return Answer::Done(1);
+                return Ok(1);
             }
-            return Answer::Done(0);
+            return Ok(0);
         }
-        return Answer::Refused(Refusal::Unknown);
+        return Err(Refusal::Unknown);
     }
-    Answer::Refused(Refusal::Unusable)
+    Err(Refusal::Unusable)
 }

@@ -6,27 +6,26 @@ ghost use Rattle.layout.specs.Session.{Begun, handle_number, entry_size_of};
 ghost use Rattle.entries.specs.Popping.{pop_at, pop_on, pop_call};
 
 use crate::reads::{none_for, read_on};
-use answers::{Answer, OneEntry, Refusal};
+use answers::Refusal;
 use layout::Session;
-use octets::Found;
 
 // The entry of an index, read and cut off with all behind it.
-fn pop_at(disk: &[u8], session: &mut [u8], tape: usize, index: u64, out: &mut [u8]) -> OneEntry
+fn pop_at(disk: &[u8], session: &mut [u8], tape: usize, index: u64, out: &mut [u8]) -> Result<Option<u64>, Refusal>
     requires { (Sound disk.now × Begun session.old) × (((tape < 8) × (handle_number session.old tape ≢ 0)) × (index * entry_size_of session.old tape < 2 ^ 64)) }
     ensures { pop_at disk.now session.old tape index out.old ≡ popping result session.new out.new }
 {
     let answer = read_on(disk, session, Session::WRITER, tape, index, 1, out);
     match answer {
-        Answer::Done(_) => {
+        Ok(_) => {
             let handle = session::get_handle(session, tape);
             staging::put_len(session, tape, index * handle.entry);
-            OneEntry::Entry(index)
+            Ok(Some(index))
         }
-        Answer::Refused(why) => none_for(why),
+        Err(why) => none_for(why),
     }
 }
 
-fn pop_on(disk: &[u8], session: &mut [u8], tape: usize, out: &mut [u8]) -> OneEntry
+fn pop_on(disk: &[u8], session: &mut [u8], tape: usize, out: &mut [u8]) -> Result<Option<u64>, Refusal>
     requires { (Sound disk.now × Begun session.old) × ((tape < 8) × (handle_number session.old tape ≢ 0)) }
     ensures { pop_on disk.now session.old tape out.old ≡ popping result session.new out.new }
 {
@@ -35,11 +34,11 @@ fn pop_on(disk: &[u8], session: &mut [u8], tape: usize, out: &mut [u8]) -> OneEn
         let handle = session::get_handle(session, tape);
         let entries = seen.len / handle.entry;
         if entries == 0 {
-            return OneEntry::NoEntry;
+            return Ok(None);
         }
         return pop_at(disk, session, tape, entries - 1, out);
     }
-    OneEntry::NoEntry
+    Ok(None)
 }
 
 // Reads the last entry and stages that it is cut off, in a truncate; none where the tape is absent or
@@ -50,17 +49,17 @@ pub fn pop_entry(
     transaction: u64,
     handle: u64,
     out: &mut [u8],
-) -> OneEntry
+) -> Result<Option<u64>, Refusal>
     ensures { pop_call disk.now session.old transaction handle out.old ≡ popping result session.new out.new }
 {
     if beginning::is_usable(disk, session) {
         if staging::is_cutting(session, transaction) {
-            let Found::At(tape) = session::find_handle(session, handle) else {
-                return OneEntry::Refused(Refusal::Unknown);
+            let Some(tape) = session::find_handle(session, handle) else {
+                return Err(Refusal::Unknown);
             };
             return pop_on(disk, session, tape, out);
         }
-        return OneEntry::Refused(Refusal::Unknown);
+        return Err(Refusal::Unknown);
     }
-    OneEntry::Refused(Refusal::Unusable)
+    Err(Refusal::Unusable)
 }

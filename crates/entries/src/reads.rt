@@ -5,8 +5,7 @@ ghost use Rattle.layout.specs.Disk.{Sound};
 ghost use Rattle.layout.specs.Session.{Begun, handle_number, entry_size_of};
 ghost use Rattle.entries.specs.Reads.{serve_on, read_on, read_call, none_for, one_of, entry_call};
 
-use answers::{Answer, OneEntry, Refusal};
-use octets::Found;
+use answers::Refusal;
 
 // Bytes that lie in bounds, into a buffer that has room for them.
 fn serve_on(
@@ -16,7 +15,7 @@ fn serve_on(
     index: u64,
     count: u64,
     out: &mut [u8],
-) -> Answer
+) -> Result<u64, Refusal>
     requires { ((Sound disk.now × Begun session.now) × ((tape < 8) × (handle_number session.now tape ≢ 0))) × ((index * entry_size_of session.now tape + count * entry_size_of session.now tape < 2 ^ 64) × (count * entry_size_of session.now tape ≤ length out.old)) }
     ensures { serve_on disk.now session.now tape index count out.old ≡ reading result out.new }
 {
@@ -26,9 +25,9 @@ fn serve_on(
     let wanted = (count * entry) as usize;
     if cached_tape::can_serve(disk, session, tape, offset, wanted) {
         cached_tape::serve(disk, session, tape, offset, &mut out[..wanted]);
-        return Answer::Done(count);
+        return Ok(count);
     }
-    Answer::Refused(Refusal::Missing)
+    Err(Refusal::Missing)
 }
 
 // As a transaction place sees the tape.
@@ -40,7 +39,7 @@ pub fn read_on(
     index: u64,
     count: u64,
     out: &mut [u8],
-) -> Answer
+) -> Result<u64, Refusal>
     requires { ((Sound disk.now × Begun session.now) × (place < 17)) × ((tape < 8) × (handle_number session.now tape ≢ 0)) }
     ensures { read_on disk.now session.now place tape index count out.old ≡ reading result out.new }
 {
@@ -50,13 +49,13 @@ pub fn read_on(
         let entry = handle.entry;
         if components::in_bounds(entry, seen.start, seen.len, index, count) {
             if (out.len() as u64) < count * entry {
-                return Answer::Refused(Refusal::NotWhole);
+                return Err(Refusal::NotWhole);
             }
             return serve_on(disk, session, tape, index, count, out);
         }
-        return Answer::Refused(Refusal::OutOfBounds);
+        return Err(Refusal::OutOfBounds);
     }
-    Answer::Refused(Refusal::Absent)
+    Err(Refusal::Absent)
 }
 
 // Reads entries from an index on, and answers how many. Refused: 1, 2, 11, 12, 10, 16.
@@ -68,37 +67,37 @@ pub fn read_entries(
     index: u64,
     count: u64,
     out: &mut [u8],
-) -> Answer
+) -> Result<u64, Refusal>
     ensures { read_call disk.now session.now transaction handle index count out.old ≡ reading result out.new }
 {
     if beginning::is_usable(disk, session) {
-        let Found::At(place) = session::find_transaction(session, transaction) else {
-            return Answer::Refused(Refusal::Unknown);
+        let Some(place) = session::find_transaction(session, transaction) else {
+            return Err(Refusal::Unknown);
         };
-        let Found::At(tape) = session::find_handle(session, handle) else {
-            return Answer::Refused(Refusal::Unknown);
+        let Some(tape) = session::find_handle(session, handle) else {
+            return Err(Refusal::Unknown);
         };
         return read_on(disk, session, place, tape, index, count, out);
     }
-    Answer::Refused(Refusal::Unusable)
+    Err(Refusal::Unusable)
 }
 
 // What a refused read of one entry answers: none for 12 alone.
-pub fn none_for(why: Refusal) -> OneEntry
+pub fn none_for(why: Refusal) -> Result<Option<u64>, Refusal>
     ensures { result ≡ none_for why }
 {
     match why {
-        Refusal::OutOfBounds => OneEntry::NoEntry,
-        _ => OneEntry::Refused(why),
+        Refusal::OutOfBounds => Ok(None),
+        _ => Err(why),
     }
 }
 
-fn one_of(index: u64, answer: Answer) -> OneEntry
+fn one_of(index: u64, answer: Result<u64, Refusal>) -> Result<Option<u64>, Refusal>
     ensures { result ≡ one_of index answer }
 {
     match answer {
-        Answer::Done(_) => OneEntry::Entry(index),
-        Answer::Refused(why) => none_for(why),
+        Ok(_) => Ok(Some(index)),
+        Err(why) => none_for(why),
     }
 }
 
@@ -110,7 +109,7 @@ pub fn read_entry(
     handle: u64,
     index: u64,
     out: &mut [u8],
-) -> OneEntry
+) -> Result<Option<u64>, Refusal>
     ensures { entry_call disk.now session.now transaction handle index out.old ≡ entering result out.new }
 {
     let answer = read_entries(disk, session, transaction, handle, index, 1, out);

@@ -1,7 +1,6 @@
 -- Document 01, "Nine checked examples": one table of the definitions, proved by the one theorem `examples`. Where an example runs through several
 -- calls, its row composes the definitions that those calls are built from. Assumes nothing.
-use Rattle.std.specs.Prelude.{◌≡◌, refl, Bool, true, false, cond, List, [], ◌∷◌, ℕ, length, replicate}
-use Rattle.std.proofs.Math.Option.{Option, some}
+use Rattle.std.specs.Prelude.{◌≡◌, refl, Bool, true, false, cond, List, [], ◌∷◌, ℕ, length, replicate, Option, Some}
 use Rattle.octets.specs.Bytes.{put}
 use Rattle.octets.specs.Number.{le}
 use Rattle.borsh.specs.Encoding.{vec, each, sorted_map}
@@ -54,7 +53,7 @@ dropped = popped staged 1
 
 -- a byte read through the cache
 abbrev byte : ℕ → Option ℕ
-byte o = cond (from_cache dropped o) (some (ring_at dropped staged_bytes o)) (byte_at 4 files o)
+byte o = cond (from_cache dropped o) (Some (ring_at dropped staged_bytes o)) (byte_at 4 files o)
 
 -- ---- 6 and 7: ten bytes in the files 0 to 2, at epoch 1
 
@@ -97,7 +96,7 @@ pub record Examples : Type 0 where
   five-unwritten : unwritten_after filled 0 1 ≡ 1
   five-dropped : held dropped staged_bytes ≡ 0x64 ∷ 0x65 ∷ 0x66 ∷ []
   five-dropped-first : dropped.first ≡ 3
-  five-read : byte 2 ∷ byte 3 ∷ [] ≡ some 0x63 ∷ some 0x64 ∷ []
+  five-read : byte 2 ∷ byte 3 ∷ [] ≡ Some 0x63 ∷ Some 0x64 ∷ []
   -- 6: shift to 8 beside a reader of epoch 1: nothing is removed; the next touching commit, with nobody else, removes 0 and 1
   six : there (commit (shifted_start 0 8) 1 (1 ∷ []) ten) ≡ true ∷ true ∷ true ∷ []
   six-closed : there (commit 8 2 [] (commit (shifted_start 0 8) 1 (1 ∷ []) ten)) ≡ false ∷ false ∷ true ∷ []

@@ -1,7 +1,6 @@
 -- Readings of document 01 that its nine examples do not show, as the definitions compute them: one table, proved by the one theorem `settled`.
 -- Assumes nothing.
-use Rattle.std.specs.Prelude.{◌≡◌, refl, Bool, true, false, List, [], ◌∷◌, ℕ, eqb}
-use Rattle.std.proofs.Math.Option.{none}
+use Rattle.std.specs.Prelude.{◌≡◌, refl, Bool, true, false, List, [], ◌∷◌, ℕ, eqb, None}
 use Rattle.octets.specs.Bytes.{put}
 use Rattle.ring_buffer.specs.Ring.{nth, nths, from_cache, ring_at, first_part, second_part, around, ring, pushed, popped, truncated, prepared}
 use Rattle.ring_buffer.specs.Put.{after_put, bytes_after_put}
@@ -14,7 +13,7 @@ use Rattle.components.specs.Bounds.{shifted_start, cut_start}
 use Rattle.examples.specs.Examples.{ten, commit, filled, filled_bytes, staged, staged_bytes}
 
 abbrev file : Bool → List ℕ → File
-file tracked bytes = record { there = true; tracked = tracked; mark = none; bytes = bytes }
+file tracked bytes = record { there = true; tracked = tracked; mark = None; bytes = bytes }
 
 -- files 0 to 2
 abbrev three : Files → List File

@@ -1,6 +1,5 @@
 -- A flush: old pages stay in the files, and what was staged comes into them. Assumes nothing.
-use Rattle.std.specs.Prelude.{◌≡◌, List, ℕ, ◌+◌, ◌-◌, ◌≤◌, ◌<◌}
-use Rattle.std.proofs.Math.Option.{some}
+use Rattle.std.specs.Prelude.{◌≡◌, List, ℕ, ◌+◌, ◌-◌, ◌≤◌, ◌<◌, Some}
 use native.Mathlib.Omega.{arith}
 use Rattle.octets.specs.Cases.{order}
 use Rattle.ring_buffer.specs.Ring.{nths}
@@ -34,6 +33,6 @@ module _ (fs : ℕ) (z : 0 < fs) where
       cc)
 
   -- a mark in the files was there before
-  pub flush-mark : (h : Held) (W k : ℕ) {e : ℕ} → (flush fs W h k).mark ≡ some e → (h.files k).mark ≡ some e
+  pub flush-mark : (h : Held) (W k : ℕ) {e : ℕ} → (flush fs W h k).mark ≡ Some e → (h.files k).mark ≡ Some e
   unfolding flush
   flush-mark h W k m = write-mark fs (unwritten_of h.ring h.cache h.unwritten) h.files (W - h.unwritten) k m

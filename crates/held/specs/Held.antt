@@ -1,8 +1,6 @@
 -- One tape's cache and files, and what each step of document 01, "Tape steps" and "Cache steps", does to them. Built from the definitions of
 -- `ring_buffer` and `components`. Assumes nothing.
-use Rattle.std.specs.Prelude.{cond, List, [], ◌∷◌, ℕ, zero, suc, ◌+◌, ◌-◌, length}
-use Rattle.std.proofs.Math.Option.{Option, none, some}
-use Rattle.std.proofs.Math.ListN.{get_elem?}
+use Rattle.std.specs.Prelude.{cond, List, [], ◌∷◌, ℕ, zero, suc, ◌+◌, ◌-◌, length, Option, Some, None, slice_get}
 use Rattle.octets.specs.Bytes.{put}
 use Rattle.ring_buffer.specs.declared.bookkeeping.RingBuffer.{RingBuffer}
 use Rattle.ring_buffer.specs.Ring.{ring_at, from_cache, fresh, reset_to, popped, truncated}
@@ -53,16 +51,16 @@ trimmed fs len h =
 
 -- "A read takes offsets from the cache's first index upward out of the cache, even above its length"
 unfoldable pub byte_in : ℕ → Held → ℕ → Option ℕ
-byte_in fs h o = cond (from_cache h.ring o) (some (ring_at h.ring h.cache o)) (byte_at fs h.files o)
+byte_in fs h o = cond (from_cache h.ring o) (Some (ring_at h.ring h.cache o)) (byte_at fs h.files o)
 
 abbrev pub cons_o : Option ℕ → Option (List ℕ) → Option (List ℕ)
-cons_o none l = none
-cons_o (some b) none = none
-cons_o (some b) (some l) = some (b ∷ l)
+cons_o None l = None
+cons_o (Some b) None = None
+cons_o (Some b) (Some l) = Some (b ∷ l)
 
 -- n bytes from an offset on
 unfoldable pub fetch : ℕ → Held → ℕ → ℕ → Option (List ℕ)
-fetch fs h o zero = some []
+fetch fs h o zero = Some []
 fetch fs h o (suc n) = cons_o (byte_in fs h o) (fetch fs h (o + 1) n)
 
 -- ---- a session's end, and opening
@@ -77,11 +75,11 @@ taken fs began len start f = remove 0xffff_ffff_ffff_ffff (mark_below (file_of f
 
 -- the byte at an offset, of a file on the disk, tracked or not
 unfoldable pub on_disk_at : ℕ → Files → ℕ → Option ℕ
-on_disk_at fs f o = cond (f (file_of fs o)).there (get_elem? (f (file_of fs o)).bytes (place_in fs o)) none
+on_disk_at fs f o = cond (f (file_of fs o)).there (slice_get (f (file_of fs o)).bytes (place_in fs o)) None
 
 -- n of them from an offset on
 unfoldable pub load : ℕ → Files → ℕ → ℕ → Option (List ℕ)
-load fs f o zero = some []
+load fs f o zero = Some []
 load fs f o (suc n) = cons_o (on_disk_at fs f o) (load fs f (o + 1) n)
 
 -- a cache of a capacity with these bytes from an index on, laid over memory that holds something

@@ -1,9 +1,8 @@
 -- A session's end and a tape's opening: pages stay in the files that are tracked again, and the cache is filled from them. Assumes nothing.
-use Rattle.std.specs.Prelude.{◌≡◌, refl, true, ◌&&◌, List, [], ℕ, zero, suc, ◌+◌, ◌-◌, ◌%◌, ◌≤◌, ◌<◌, length, take, drop}
+use Rattle.std.proofs.lemmas.Option.{none-some}
+use Rattle.std.specs.Prelude.{◌≡◌, refl, true, ◌&&◌, List, [], ℕ, zero, suc, ◌+◌, ◌-◌, ◌%◌, ◌≤◌, ◌<◌, length, take, drop, Option, Some, None, slice_get}
 use Rattle.std.proofs.Common.{sym, ◌∙◌, ⊎_elim, mod-eq_of_lt, add-one, arith, drop-cons, get_or-take, get_or-drop}
 use Rattle.std.proofs.Math.Path.{fun_ext}
-use Rattle.std.proofs.Math.Option.{Option, none, some, none-ne-some}
-use Rattle.std.proofs.Math.ListN.{get_elem?}
 use Rattle.octets.specs.Cases.{picked, and_r}
 use Rattle.octets.specs.Bytes.{length-put, get_or-put-in, length_part}
 use Rattle.ring_buffer.specs.Ring.{nth, fresh}
@@ -26,15 +25,15 @@ track-forget n f = fun_ext (λ k. refl)
 -- a byte that is found stands in a file on the disk
 record OnDisk (fs : ℕ) (f : Files) (o x : ℕ) : Type 0 where
   there : (f (file_of fs o)).there ≡ true
-  stands : get_elem? (f (file_of fs o)).bytes (place_in fs o) ≡ some x
+  stands : slice_get (f (file_of fs o)).bytes (place_in fs o) ≡ Some x
 
-on-disk : (fs : ℕ) (f : Files) (o : ℕ) {x : ℕ} → byte_at fs f o ≡ some x → OnDisk fs f o x
+on-disk : (fs : ℕ) (f : Files) (o : ℕ) {x : ℕ} → byte_at fs f o ≡ Some x → OnDisk fs f o x
 unfolding byte_at
 on-disk fs f o {x} =
     let g = f (file_of fs o) in
-    picked (λ (q : Option ℕ). q ≡ some x → OnDisk fs f o x) (g.tracked && g.there) (get_elem? g.bytes (place_in fs o)) none
+    picked (λ (q : Option ℕ). q ≡ Some x → OnDisk fs f o x) (g.tracked && g.there) (slice_get g.bytes (place_in fs o)) None
     (λ t e. record { there = and_r g.tracked g.there t; stands = e })
-    (λ _ e. absurd (none-ne-some x e))
+    (λ _ e. absurd (none-some x e))
 
 pub track-kept : (fs : ℕ) → 0 < fs → (f : Files) (l st n : ℕ) (c : List ℕ) → Kept fs f st n c → n ≤ l → Kept fs (track (file_of fs l) f) st n c
 track-kept fs z f l st n c k below o a b =
@@ -47,20 +46,20 @@ pub taken-kept : (fs : ℕ) → 0 < fs → (f : Files) (began l start st n : ℕ
 unfolding taken
 taken-kept fs z f began l start st n c k later =
     swept_kept fs z (track (file_of fs l) f) (file_of fs start) began 0xffff_ffff_ffff_ffff st n c k
-    (λ i e m _. absurd (none-ne-some e (sym (track-mark (file_of fs l) f i) ∙ m)))
+    (λ i e m _. absurd (none-some e (sym (track-mark (file_of fs l) f i) ∙ m)))
     (λ _. file-mono fs z start st later)
 
-pub taken-mark : (fs : ℕ) (f : Files) (began l start k : ℕ) {e : ℕ} → (taken fs began l start f k).mark ≡ some e → (e ≡ began) × (k < file_of fs start)
+pub taken-mark : (fs : ℕ) (f : Files) (began l start k : ℕ) {e : ℕ} → (taken fs began l start f k).mark ≡ Some e → (e ≡ began) × (k < file_of fs start)
 unfolding taken
 taken-mark fs f began l start k {e} m =
     let tracked = track (file_of fs l) f in
     ⊎_elim
-    (λ q. absurd (none-ne-some e (sym (track-mark (file_of fs l) f k) ∙ q)))
+    (λ q. absurd (none-some e (sym (track-mark (file_of fs l) f k) ∙ q)))
     (λ q. q)
     (mark-mark (file_of fs start) began tracked k (remove-mark 0xffff_ffff_ffff_ffff (mark_below (file_of fs start) began tracked) k m))
 
 -- what tracking finds is on the disk
-track-disk : (fs m : ℕ) (f : Files) (o : ℕ) {x : ℕ} → byte_at fs (track m f) o ≡ some x → on_disk_at fs f o ≡ some x
+track-disk : (fs m : ℕ) (f : Files) (o : ℕ) {x : ℕ} → byte_at fs (track m f) o ≡ Some x → on_disk_at fs f o ≡ Some x
 unfolding on_disk_at
 track-disk fs m f o e =
     let d = on-disk fs (track m f) o e in
@@ -68,7 +67,7 @@ track-disk fs m f o e =
     rw t (rw (track-bytes m f (file_of fs o)) at d.stands)
 
 pub load_kept : (fs m : ℕ) (f : Files) (st : ℕ) (c : List ℕ) → Kept fs (track m f) st (length c) c
-    → (n o : ℕ) → st ≤ o → o + n ≤ length c → load fs f o n ≡ some (take n (drop o c))
+    → (n o : ℕ) → st ≤ o → o + n ≤ length c → load fs f o n ≡ Some (take n (drop o c))
 unfolding load
 load_kept fs m f st c k zero o a b = refl
 load_kept fs m f st c k (suc n) o a b =

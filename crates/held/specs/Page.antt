@@ -1,6 +1,5 @@
 -- A page is bytes of the tape, listed from offset 0: what it finds in the files, what it finds in the cache, and when a cache is in order. Assumes nothing.
-use Rattle.std.specs.Prelude.{◌≡◌, List, ℕ, ◌+◌, ◌≤◌, ◌<◌, length, get_or}
-use Rattle.std.proofs.Math.Option.{some}
+use Rattle.std.specs.Prelude.{◌≡◌, List, ℕ, ◌+◌, ◌≤◌, ◌<◌, length, get_or, Some}
 use Rattle.ring_buffer.specs.Ring.{ring_at}
 use Rattle.ring_buffer.specs.Ring as R
 use Rattle.components.specs.Files.{Files, byte_at}
@@ -8,7 +7,7 @@ use Rattle.held.specs.Held.{Held}
 
 -- tracked files hold c's bytes from st up to n
 abbrev pub Kept : ℕ → Files → ℕ → ℕ → List ℕ → Type 0
-Kept fs f st n c = (o : ℕ) → st ≤ o → o < n → byte_at fs f o ≡ some (get_or c o 0)
+Kept fs f st n c = (o : ℕ) → st ≤ o → o < n → byte_at fs f o ≡ Some (get_or c o 0)
 
 -- so does the cache, from its first index on, even above its length
 abbrev pub Ringed : Held → ℕ → ℕ → List ℕ → Type 0

@@ -1,9 +1,8 @@
 -- A put: what pages find before and after it, the old ones and the longer one. Assumes nothing.
-use Rattle.std.specs.Prelude.{◌≡◌, Bool, cond, List, [], ◌++◌, eqb}
+use Rattle.std.specs.Prelude.{◌≡◌, Bool, cond, List, [], ◌++◌, eqb, Option, Some}
 use Rattle.std.proofs.Math.Path.{refl, ap}
 use Rattle.std.proofs.Common.{sym, ◌∙◌, get_or-append-add}
 use Rattle.std.proofs.Math.Bool.{true, false}
-use Rattle.std.proofs.Math.Option.{Option, some}
 use Prim.Native.Nat.{ℕ, ◌+◌, ◌-◌, ◌%◌, ◌^◌, ◌≤◌, ◌<◌, min}
 use native.Mathlib.Omega.{arith}
 use borrow.Author.Tests.{eqb-true, eqb-false, leb-false, ltb-false}
@@ -29,7 +28,7 @@ pub record Put (fs : ℕ) (h h' : Held) (L W : ℕ) (d : List ℕ) : Type 0 wher
   pub new_k : (st : ℕ) (c : List ℕ) → length c ≡ W → Kept fs h.files st (W - h.unwritten) c → Ringed h st W c
       → Kept fs h'.files st (W + length d - h'.unwritten) (c ++ d)
   pub new_r : (st : ℕ) (c : List ℕ) → length c ≡ W → Ringed h st W c → Ringed h' st (W + length d) (c ++ d)
-  pub marks : (k e : ℕ) → (h'.files k).mark ≡ some e → (h.files k).mark ≡ some e
+  pub marks : (k e : ℕ) → (h'.files k).mark ≡ Some e → (h.files k).mark ≡ Some e
 
 -- ---- the files: the put's own bytes are sent too, or only what was unwritten, or nothing
 
@@ -37,10 +36,10 @@ pub record Put (fs : ℕ) (h h' : Held) (L W : ℕ) (d : List ℕ) : Type 0 wher
 record Filed (fs : ℕ) (h : Held) (g : Files) (u L W : ℕ) (d : List ℕ) : Type 0 where
   old_k : (st n : ℕ) (c : List ℕ) → n ≤ L → Kept fs h.files st n c → Kept fs g st n c
   new_k : (st : ℕ) (c : List ℕ) → length c ≡ W → Kept fs h.files st (W - h.unwritten) c → Ringed h st W c → Kept fs g st (W + length d - u) (c ++ d)
-  marks : (k e : ℕ) → (g k).mark ≡ some e → (h.files k).mark ≡ some e
+  marks : (k e : ℕ) → (g k).mark ≡ Some e → (h.files k).mark ≡ Some e
 
 kept-longer : (fs : ℕ) (f : Files) (st n : ℕ) (c d : List ℕ) → n ≤ length c → Kept fs f st n c → Kept fs f st n (c ++ d)
-kept-longer fs f st n c d l k o a b = k o a b ∙ ap {B = Option ℕ} some (sym (get_or-append c d 0 o (omega arith)))
+kept-longer fs f st n c d l k o a b = k o a b ∙ ap {B = Option ℕ} Some (sym (get_or-append c d 0 o (omega arith)))
 
 -- what the files lack
 abbrev lacking : Held → List ℕ

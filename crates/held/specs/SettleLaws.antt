@@ -1,7 +1,6 @@
 -- An append's commit: a page keeps its files if each mark that may go lies below its start. The cache is as it was. Assumes nothing.
-use Rattle.std.specs.Prelude.{◌≡◌, refl, ◌⊎◌, List, ℕ, ◌-◌, ◌≤◌, ◌<◌}
+use Rattle.std.specs.Prelude.{◌≡◌, refl, ◌⊎◌, List, ℕ, ◌-◌, ◌≤◌, ◌<◌, Some}
 use Rattle.std.proofs.Common.{◌∙◌, inl, inr, ⊎_elim, arith}
-use Rattle.std.proofs.Math.Option.{some}
 use Rattle.octets.specs.Cases.{decide}
 use Rattle.ring_buffer.specs.Put.{unwritten_of}
 use Rattle.components.specs.Pieces.{file_of}
@@ -14,7 +13,7 @@ use Rattle.held.specs.Page.{Kept, Sound}
 
 -- files marked and removed: a page stays if old marks that may go, and the new ones if they may go, lie below its start
 pub swept_kept : (fs : ℕ) → 0 < fs → (f : Files) (start_file began oldest st n : ℕ) (c : List ℕ) → Kept fs f st n c
-    → ((k e : ℕ) → (f k).mark ≡ some e → e < oldest → k < file_of fs st)
+    → ((k e : ℕ) → (f k).mark ≡ Some e → e < oldest → k < file_of fs st)
     → (began < oldest → start_file ≤ file_of fs st)
     → Kept fs (remove oldest (mark_below start_file began f)) st n c
 swept_kept fs z f start_file began oldest st n c kept old new o a b =
@@ -32,14 +31,14 @@ swept_kept fs z f start_file began oldest st n c kept old new o a b =
 
 -- marks that are there were there before, or are set now, below start's file; those below the oldest epoch may go
 pub settled-kept : (fs : ℕ) → 0 < fs → (h : Held) (began oldest W start st n : ℕ) (c : List ℕ) → Kept fs (flush fs W h) st n c
-    → ((k e : ℕ) → (flush fs W h k).mark ≡ some e → e < oldest → k < file_of fs st)
+    → ((k e : ℕ) → (flush fs W h k).mark ≡ Some e → e < oldest → k < file_of fs st)
     → (began < oldest → file_of fs start ≤ file_of fs st)
     → Kept fs (settled fs began oldest W start h).files st n c
 unfolding settled
 settled-kept fs z h began oldest W start st n c kept old new = swept_kept fs z (flush fs W h) (file_of fs start) began oldest st n c kept old new
 
-pub settled-mark : (fs : ℕ) (h : Held) (began oldest W start k : ℕ) {e : ℕ} → ((settled fs began oldest W start h).files k).mark ≡ some e
-    → ((h.files k).mark ≡ some e) ⊎ ((e ≡ began) × (k < file_of fs start))
+pub settled-mark : (fs : ℕ) (h : Held) (began oldest W start k : ℕ) {e : ℕ} → ((settled fs began oldest W start h).files k).mark ≡ Some e
+    → ((h.files k).mark ≡ Some e) ⊎ ((e ≡ began) × (k < file_of fs start))
 unfolding settled flush
 settled-mark fs h began oldest W start k m =
     let flushed = flush fs W h in

@@ -1,7 +1,6 @@
 -- A truncate's commit: the cache is cut and marks are cleared from the new end's file on, if the tape was touched. Assumes nothing.
-use Rattle.std.specs.Prelude.{◌≡◌, refl, ◌⊎◌, Bool, false, cond, List, ℕ, ◌≤◌, ◌<◌, length}
+use Rattle.std.specs.Prelude.{◌≡◌, refl, ◌⊎◌, Bool, false, cond, List, ℕ, ◌≤◌, ◌<◌, length, Some}
 use Rattle.std.proofs.Common.{sym, ◌∙◌, inl, inr, arith}
-use Rattle.std.proofs.Math.Option.{some}
 use Rattle.octets.specs.Cases.{picked}
 use Rattle.ring_buffer.specs.Ring.{nth, truncated}
 use Rattle.ring_buffer.specs.RingLaws.{sound-truncated}
@@ -15,7 +14,7 @@ pub record Trim (fs : ℕ) (h h' : Held) (L n : ℕ) : Type 0 where
   pub sound : Sound h' n n
   pub kept : (st l : ℕ) (c : List ℕ) → Kept fs h.files st l c → Kept fs h'.files st l c
   pub ringed : (st l : ℕ) (c : List ℕ) → Ringed h st l c → Ringed h' st l c
-  pub marks : (k e : ℕ) → (h'.files k).mark ≡ some e → ((h.files k).mark ≡ some e) × ((k < file_of fs n) ⊎ (n ≡ L))
+  pub marks : (k e : ℕ) → (h'.files k).mark ≡ Some e → ((h.files k).mark ≡ Some e) × ((k < file_of fs n) ⊎ (n ≡ L))
 
 pub trim-held : (fs : ℕ) (h : Held) (L n : ℕ) (b : Bool) → Sound h L L → n ≤ L → (b ≡ false → n ≡ L) → Trim fs h (cond b (trimmed fs n h) h) L n
 unfolding trimmed truncated nth

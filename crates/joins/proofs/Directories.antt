@@ -1,6 +1,6 @@
 -- What an open and a commit do to a directory's files: emptied, made new, taken over, or marked and removed; and where the directories' names then stand.
 -- Assumes nothing.
-use Rattle.std.specs.Prelude.{◌≡◌, ◌≢◌, Bool, true, false, cond, eqb, length}
+use Rattle.std.specs.Prelude.{◌≡◌, ◌≢◌, Bool, true, false, cond, eqb, length, Option, Some, None}
 use Rattle.std.proofs.Math.Path.{refl, sym, ap, fun_ext}
 use Rattle.std.proofs.Common.{subst, ◌∙◌}
 use mathlib.Core.List.{List, []}
@@ -11,8 +11,6 @@ use Rattle.octets.specs.Only.{OnlyIn}
 use Rattle.octets.specs.Compare.{same_bytes, same_true, same_refl, same-lengths}
 use Rattle.octets.specs.First.{first, first-same, first-at, first-hits, first-misses}
 use Rattle.octets.specs.Cases.{decide, equal}
-use Rattle.octets.specs.declared.Found.{Found}
-use Rattle.octets.specs.declared.Found.TheVariants.{At, Nothing}
 use Rattle.components.specs.Pieces.{file_of}
 use Rattle.components.specs.Files.{no_files, mark_below, remove}
 use Rattle.held.specs.Held.{taken}
@@ -96,15 +94,15 @@ module _ (a : Areas) (place : ℕ) (whole : Whole a) where
     own-emptied : files_at (emptied a place) place ≡ no_files
     own-emptied = fun_ext (λ (k : ℕ). by k (slot_with (disk_of a.disk) place k) refl)
       where
-        out : (k : ℕ) → slot_with (disk_of (emptied a place).disk) place k ≡ Nothing → files_at (emptied a place) place k ≡ no_files k
+        out : (k : ℕ) → slot_with (disk_of (emptied a place).disk) place k ≡ None → files_at (emptied a place) place k ≡ no_files k
         out k e = file-out (disk_of (emptied a place).disk) (session_of (emptied a place).session).tracking place k e
 
-        by : (k : ℕ) (f : Found) → slot_with (disk_of a.disk) place k ≡ f → files_at (emptied a place) place k ≡ no_files k
-        by k (At i) e =
+        by : (k : ℕ) (f : Option ℕ) → slot_with (disk_of a.disk) place k ≡ f → files_at (emptied a place) place k ≡ no_files k
+        by k (Some i) e =
             out k
             (slot-left (disk_of a.disk) (disk_of (emptied a place).disk) place ours thinned-emptied.freed k (once-single a.disk once) i e
             (eq-eqb ((disk_of a.disk).slot i).owner (place + 1) (with-is (disk_of a.disk) place k i e).0))
-        by k Nothing e = out k (slot-never (disk_of a.disk) (disk_of (emptied a place).disk) place ours thinned-emptied.freed k e)
+        by k None e = out k (slot-never (disk_of a.disk) (disk_of (emptied a place).disk) place ours thinned-emptied.freed k e)
 
     pub changed-emptied : Changed a (emptied a place) place no_files
     changed-emptied = changed-thinned a (emptied a place) place ours no_files once thinned-emptied own-emptied
@@ -121,9 +119,9 @@ module _ (b c : Areas) (place : ℕ) (wanted : List ℕ) (renamed : disk_of c.di
       ∙ ap (λ (s : List ℕ). file_at (with_directory (disk_of b.disk) place wanted) (session_of s).tracking (slot_with (disk_of b.disk) q k)) still
       ∙ by (slot_with (disk_of b.disk) q k))
     where
-      by : (f : Found) → file_at (with_directory (disk_of b.disk) place wanted) (session_of b.session).tracking f ≡ file_at (disk_of b.disk) (session_of b.session).tracking f
-      by (At i) = refl
-      by Nothing = refl
+      by : (f : Option ℕ) → file_at (with_directory (disk_of b.disk) place wanted) (session_of b.session).tracking f ≡ file_at (disk_of b.disk) (session_of b.session).tracking f
+      by (Some i) = refl
+      by None = refl
 
   changed-renamed : Once b.disk → Changed b c place (files_at b place)
   unfolding on_disk
@@ -140,30 +138,30 @@ module _ (b c : Areas) (place : ℕ) (wanted : List ℕ) (renamed : disk_of c.di
 
 -- ---- a new directory, at the first free place
 
-module _ (a : Areas) (wanted : List ℕ) (place : ℕ) (whole : Whole a) (empty : find_name a.disk directories [] ≡ At place) (small : length wanted ≤ 24) where
-  disk-added : disk_of (added a wanted (At place)).disk ≡ with_directory (disk_of (emptied a place).disk) place wanted
+module _ (a : Areas) (wanted : List ℕ) (place : ℕ) (whole : Whole a) (empty : find_name a.disk directories [] ≡ Some place) (small : length wanted ≤ 24) where
+  disk-added : disk_of (added a wanted (Some place)).disk ≡ with_directory (disk_of (emptied a place).disk) place wanted
   unfolding add_directory
   disk-added =
       let e = (emptied a place).disk in
-      let found : find_name e directories [] ≡ At place = names-emptied a place whole.sound [] ∙ empty in
-      ap (λ (f : Found). disk_of (add_at e wanted f).area) found
+      let found : find_name e directories [] ≡ Some place = names-emptied a place whole.sound [] ∙ empty in
+      ap (λ (f : Option ℕ). disk_of (add_at e wanted f).area) found
       ∙ disk-put_name e (whole-emptied a place whole).sound place wanted (directory-low a.disk [] place empty) small
 
-  pub changed-added : Once a.disk → Changed a (added a wanted (At place)) place no_files
+  pub changed-added : Once a.disk → Changed a (added a wanted (Some place)) place no_files
   changed-added once =
       let first = changed-emptied a place whole once in
-      let new = added a wanted (At place) in
+      let new = added a wanted (Some place) in
       changed_then a (emptied a place) new place no_files (λ f. f) first
       (changed-renamed (emptied a place) new place wanted disk-added refl first.once)
 
   -- the directories' names: those of the old disk, and the new one
-  find-added : (n : List ℕ) → find_name (added a wanted (At place)).disk directories n ≡ first (λ i. same_bytes (cond (eqb i place) wanted ((disk_of a.disk).directory i)) n) 8 0
+  find-added : (n : List ℕ) → find_name (added a wanted (Some place)).disk directories n ≡ first (λ i. same_bytes (cond (eqb i place) wanted ((disk_of a.disk).directory i)) n) 8 0
   find-added n =
-      find-directory (added a wanted (At place)).disk n
+      find-directory (added a wanted (Some place)).disk n
       ∙ ap (λ (m : Disk). directory_named m n) disk-added
       ∙ ap (λ (m : Disk). first (λ i. same_bytes (cond (eqb i place) wanted (m.directory i)) n) 8 0) (disk-emptied a place whole.sound)
 
-  pub found-added : find_name a.disk directories wanted ≡ Nothing → find_name (added a wanted (At place)).disk directories wanted ≡ At place
+  pub found-added : find_name a.disk directories wanted ≡ None → find_name (added a wanted (Some place)).disk directories wanted ≡ Some place
   found-added missing =
       let none = sym (find-directory a.disk wanted) ∙ missing in
       let low = directory-low a.disk [] place empty in
@@ -176,7 +174,7 @@ module _ (a : Areas) (wanted : List ℕ) (place : ℕ) (whole : Whole a) (empty 
         before = λ i l u. rw (ne_eqb i place (λ z. omega arith)) (first-misses _ 8 0 none i l (omega arith));
       })
 
-  pub others-added : (n : List ℕ) → n ≢ wanted → 0 < length n → find_name (added a wanted (At place)).disk directories n ≡ find_name a.disk directories n
+  pub others-added : (n : List ℕ) → n ≢ wanted → 0 < length n → find_name (added a wanted (Some place)).disk directories n ≡ find_name a.disk directories n
   others-added n apart more =
       find-added n
       ∙ first-same _ (λ i. same_bytes ((disk_of a.disk).directory i) n) 8 0

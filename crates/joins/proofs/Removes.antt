@@ -1,6 +1,6 @@
 -- Removal over the slots is document 01's over the numbers. The step sweeps the slots and asks at each whether its file goes, of the areas as they are at
 -- that moment; a file that went was ripe, so it stopped nobody, and every slot is asked as at the start. Assumes nothing.
-use Rattle.std.specs.Prelude.{◌≡◌, ◌≢◌, ◌⊎◌, Bool, true, false, ◌&&◌, ℕ, ◌+◌, ◌≤◌, ◌<◌}
+use Rattle.std.specs.Prelude.{◌≡◌, ◌≢◌, ◌⊎◌, Bool, true, false, ◌&&◌, ℕ, ◌+◌, ◌≤◌, ◌<◌, Option, Some, None}
 use Rattle.std.proofs.Math.Path.{refl, ap, fun_ext}
 use Rattle.std.proofs.Common.{sym, ◌∙◌, inr, ⊎_elim, arith, eq-eqb, ne_eqb}
 use Rattle.std.proofs.Math.Logic.{inl}
@@ -9,8 +9,6 @@ use Rattle.std.proofs.Math.Dec.{eqb}
 use Rattle.octets.specs.First.{all}
 use Rattle.octets.specs.Sweep.{Rowwise, sweep-row}
 use Rattle.octets.specs.Cases.{picked, decide, equal}
-use Rattle.octets.specs.declared.Found.{Found}
-use Rattle.octets.specs.declared.Found.TheVariants.{At, Nothing}
 use Rattle.layout.specs.Disk.{slots, Sound}
 use Rattle.components.specs.Files.{File, gone, remove}
 use Rattle.components.proofs.MarkLaws.{remove-gone, remove-kept, kept-untracked}
@@ -192,8 +190,8 @@ module _ (a : Areas) (place oldest : ℕ) (whole : Whole a) where
     own-removed : files_at (remove_ripe a place oldest) place ≡ remove oldest (files_at a place)
     own-removed = fun_ext (λ (k : ℕ). by k (slot_with (disk_of a.disk) place k) refl)
       where
-        by : (k : ℕ) (f : Found) → slot_with (disk_of a.disk) place k ≡ f → files_at (remove_ripe a place oldest) place k ≡ remove oldest (files_at a place) k
-        by k (At i) e =
+        by : (k : ℕ) (f : Option ℕ) → slot_with (disk_of a.disk) place k ≡ f → files_at (remove_ripe a place oldest) place k ≡ remove oldest (files_at a place) k
+        by k (Some i) e =
             let m = disk_of a.disk in
             let t = (session_of a.session).tracking in
             let n = disk_of (remove_ripe a place oldest).disk in
@@ -211,7 +209,7 @@ module _ (a : Areas) (place oldest : ℕ) (whole : Whole a) where
             ∙ ap (λ (r : SlotRow). file_with r.slot.bytes r.tracking) (row_kept i low g)
             ∙ sym (file-in m t place k i e)
             ∙ sym (remove-kept oldest (files_at a place) k (sym same ∙ g)))
-        by k Nothing e =
+        by k None e =
             let m = disk_of a.disk in
             let t = (session_of a.session).tracking in
             let n = disk_of (remove_ripe a place oldest).disk in

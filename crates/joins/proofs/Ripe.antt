@@ -1,5 +1,5 @@
 -- Which files a removal takes, said of the slots and said of the numbers: they are the same, where each file has one slot. Assumes nothing.
-use Rattle.std.specs.Prelude.{◌≡◌, refl, ◌≢◌, true, false, not, ℕ, ◌+◌, ◌≤◌, ◌<◌, eqb, leb}
+use Rattle.std.specs.Prelude.{◌≡◌, refl, ◌≢◌, true, false, not, ℕ, ◌+◌, ◌≤◌, ◌<◌, eqb, leb, Option, Some, None}
 use Rattle.std.proofs.Math.Path.{sym}
 use Rattle.std.proofs.Common.{◌∙◌, true≢false, arith}
 use Rattle.std.proofs.lemmas.Bool.{false≢true}
@@ -7,8 +7,6 @@ use Rattle.std.proofs.Math.Bool.{and-false}
 use borrow.Author.Tests.{eq-eqb, le-leb, leb-true}
 use Rattle.octets.specs.First.{all, all_true, all-holds}
 use Rattle.octets.specs.Cases.{decide, equal, and_l, and_r, and_both}
-use Rattle.octets.specs.declared.Found.{Found}
-use Rattle.octets.specs.declared.Found.TheVariants.{At, Nothing}
 use Rattle.components.specs.Files.{Files, marked_below, ripe_below, removes}
 use Rattle.components.proofs.MarkLaws.{ripe-at, →ripe}
 use Rattle.disk.specs.Meaning.{Disk, slot_with}
@@ -38,8 +36,8 @@ module _ (m : Disk) (t : ℕ → Tracking) (place oldest : ℕ) (single : Single
   clear-ripe : (k : ℕ) → all (λ j. not (stopping m t place oldest k j)) m.slots 0 ≡ true → ripe_below oldest f k ≡ true
   clear-ripe k e = →ripe oldest f k (λ n l u. by n l u (slot_with m place n) refl)
     where
-      by : (n : ℕ) → n < k → (f n).tracked ≡ true → (s : Found) → slot_with m place n ≡ s → marked_below oldest (f n).mark ≡ true
-      by n l u (At j) s =
+      by : (n : ℕ) → n < k → (f n).tracked ≡ true → (s : Option ℕ) → slot_with m place n ≡ s → marked_below oldest (f n).mark ≡ true
+      by n l u (Some j) s =
           let here = file-in m t place n j s in
           let found = with-is m place n j s in
           let its : is_tracked (t j) ≡ true = rw here at u in
@@ -52,9 +50,9 @@ module _ (m : Disk) (t : ℕ → Tracking) (place oldest : ℕ) (single : Single
           = rw (eq-eqb (m.slot j).owner (place + 1) found.0, le-leb (m.slot j).number k (omega arith), its, r) in
           let none = all-holds (λ j. not (stopping m t place oldest k j)) m.slots 0 e j (omega arith) (omega (arith, with-low m place n j s)) in
           absurd (false≢true (rw hit at none))))
-      by n l u Nothing s = absurd (false≢true (rw (file-out m t place n s) at u))
+      by n l u None s = absurd (false≢true (rw (file-out m t place n s) at u))
 
-  ripe-clear : (k i : ℕ) → slot_with m place k ≡ At i → is_ripe oldest (t i) ≡ true → ripe_below oldest f k ≡ true
+  ripe-clear : (k i : ℕ) → slot_with m place k ≡ Some i → is_ripe oldest (t i) ≡ true → ripe_below oldest f k ≡ true
       → all (λ j. not (stopping m t place oldest k j)) m.slots 0 ≡ true
   ripe-clear k i e ripe below =
       all_true (λ j. not (stopping m t place oldest k j)) m.slots 0
@@ -67,10 +65,10 @@ module _ (m : Disk) (t : ℕ → Tracking) (place oldest : ℕ) (single : Single
           let rest = and_r (eqb (m.slot j).owner (place + 1)) _ x in
           let under : n ≤ k = leb-true n k (and_l _ _ rest) in
           let its : is_tracked (t j) ≡ true = and_l _ _ (and_r (leb n k) _ rest) in
-          let found : slot_with m place n ≡ At j = slot_is m single place n j low (and_both _ _ mine (eq-eqb n n refl)) in
+          let found : slot_with m place n ≡ Some j = slot_is m single place n j low (and_both _ _ mine (eq-eqb n n refl)) in
           equal n k
           (λ (q : n ≡ k).
-          let same : slot_with m place k ≡ At j = rw q at found in
+          let same : slot_with m place k ≡ Some j = rw q at found in
           let one : j ≡ i = cc in
           rw one ripe)
           (λ (d : n ≢ k).
@@ -78,7 +76,7 @@ module _ (m : Disk) (t : ℕ → Tracking) (place oldest : ℕ) (single : Single
           let below-k = ripe-at oldest f k n (omega arith) (rw here its) below in
           ripe-marked oldest (t j) ∙ (rw here at below-k))
 
-  pub going-removes : (k i : ℕ) → slot_with m place k ≡ At i → going m t place oldest i ≡ removes oldest f k
+  pub going-removes : (k i : ℕ) → slot_with m place k ≡ Some i → going m t place oldest i ≡ removes oldest f k
   unfolding going
   going-removes k i e =
       let here = file-in m t place k i e in

@@ -1,9 +1,8 @@
 -- A run of bytes written over files in two steps: first every number that it lies in is reached (its file there and tracked, higher ones untracked if it
 -- was not), then the bytes are set. That is `write`, which does both byte by byte. Assumes nothing.
-use Rattle.std.specs.Prelude.{◌≡◌, ◌≢◌, Bool, true, cond, not, ◌&&◌, List, [], ◌∷◌, ℕ, zero, suc, ◌+◌, ◌-◌, ◌≤◌, ◌<◌, eqb, length}
+use Rattle.std.specs.Prelude.{◌≡◌, ◌≢◌, Bool, true, cond, not, ◌&&◌, List, [], ◌∷◌, ℕ, zero, suc, ◌+◌, ◌-◌, ◌≤◌, ◌<◌, eqb, length, None}
 use Rattle.std.proofs.Math.Path.{refl, ap, fun_ext}
 use Rattle.std.proofs.Common.{sym, ◌∙◌, add-zero, arith, eq-eqb, ne_eqb}
-use Rattle.std.proofs.Math.Option.{none}
 use Rattle.std.proofs.Math.Dec.{ltb}
 use Rattle.octets.specs.Cases.{picked, decide, order, equal}
 use Rattle.components.specs.Pieces.{file_of, place_in, left_in}
@@ -22,7 +21,7 @@ with_bytes f bs = record { there = f.there; tracked = f.tracked; mark = f.mark; 
 unfoldable pub reached : Files → ℕ → Files
 reached f n k =
     cond (eqb k n)
-    (record { there = true; tracked = true; mark = cond (f k).tracked (f k).mark none; bytes = (f k).bytes })
+    (record { there = true; tracked = true; mark = cond (f k).tracked (f k).mark None; bytes = (f k).bytes })
     (cond (not (f n).tracked && ltb n k) (untracked (f k)) (f k))
 
 -- c numbers from n on
@@ -41,7 +40,7 @@ set_bytes fs f o (b ∷ bs) = set_bytes fs (set_byte fs f o b) (o + 1) bs
 -- ---- at one number
 
 module _ (f : Files) (n : ℕ) where
-  pub reached-own : reached f n n ≡ record { there = true; tracked = true; mark = cond (f n).tracked (f n).mark none; bytes = (f n).bytes }
+  pub reached-own : reached f n n ≡ record { there = true; tracked = true; mark = cond (f n).tracked (f n).mark None; bytes = (f n).bytes }
   unfolding reached
   reached-own = rw (eq-eqb n n refl)
 
@@ -58,8 +57,8 @@ module _ (f : Files) (n : ℕ) where
       (λ (e : k ≡ n). rw e (reached-own ∙ same))
       (λ (d : k ≢ n). reached-other k d ∙ rw tracked))
     where
-      same : ◌≡◌ {A = File} (record { there = true; tracked = true; mark = cond (f n).tracked (f n).mark none; bytes = (f n).bytes }) (f n)
-      same = λ i. record { there = sym there i; tracked = sym tracked i; mark = ap (λ (b : Bool). cond b (f n).mark none) tracked i; bytes = (f n).bytes }
+      same : ◌≡◌ {A = File} (record { there = true; tracked = true; mark = cond (f n).tracked (f n).mark None; bytes = (f n).bytes }) (f n)
+      same = λ i. record { there = sym there i; tracked = sym tracked i; mark = ap (λ (b : Bool). cond b (f n).mark None) tracked i; bytes = (f n).bytes }
 
 -- reached again, nothing changes
 reached-twice : (f : Files) (n : ℕ) → reached (reached f n) n ≡ reached f n
@@ -144,9 +143,9 @@ module _ (fs : ℕ) (z : 0 < fs) (f : Files) (o : ℕ) where
 
   last-alone : behind 0 ≡ whole 0
   last-alone =
-      let none : covered fs (o + 1) (o + 1 + 0) ≡ 0 = covered_none fs (o + 1) (o + 1 + 0) (omega arith) in
+      let None : covered fs (o + 1) (o + 1 + 0) ≡ 0 = covered_none fs (o + 1) (o + 1 + 0) (omega arith) in
       let one : covered fs o (o + 1) ≡ suc 0 = omega (arith, covered-suc fs o 0, ap (λ (x : ℕ). file_of fs x) (add-zero o)) in
-      rw (none, one) (from-none (reached f (file_of fs o)) _ ∙ sym (from_some f (file_of fs o) 0 ∙ from-none (reached f (file_of fs o)) _))
+      rw (None, one) (from-none (reached f (file_of fs o)) _ ∙ sym (from_some f (file_of fs o) 0 ∙ from-none (reached f (file_of fs o)) _))
 
   last-same : (m : ℕ) → file_of fs (o + 1 + m) ≡ file_of fs (o + suc m)
   last-same m = ap (λ (x : ℕ). file_of fs x) (omega arith)

@@ -1,19 +1,15 @@
 -- Reads, in the words of `components` and `held`: a byte can be read of a tape's directory just if its files have it there, and it is that byte; and so for
 -- runs, across cache and files, and of the disk alone. Assumes nothing.
-use Rattle.std.specs.Prelude.{◌≡◌, refl, Bool, cond, ◌&&◌, leb, length, get_or}
+use Rattle.std.specs.Prelude.{◌≡◌, refl, Bool, cond, ◌&&◌, leb, length, get_or, Option, Some, None, slice_get}
 use Rattle.std.proofs.Common.{sym, ◌∙◌, add-zero, zero-add, add_assoc, le-leb}
 use Rattle.std.proofs.Math.Bool.{true, false}
 use mathlib.Core.List.{List, [], ◌∷◌}
-use Rattle.std.proofs.Math.Option.{Option, none, some}
 use Prim.Native.Nat.{ℕ, zero, suc, ◌+◌, ◌-◌, ◌≤◌, ◌<◌}
 use Rattle.std.proofs.Math.Nat.{sub-zero}
 use native.Mathlib.Omega.{arith}
 use Rattle.std.proofs.lemmas.Bool.{lt-leb}
-use Rattle.std.proofs.Math.ListN.{get_elem?}
 use Rattle.octets.specs.Cases.{order, decide}
 use Rattle.octets.specs.First.{all}
-use Rattle.octets.specs.declared.Found.{Found}
-use Rattle.octets.specs.declared.Found.TheVariants.{At, Nothing}
 use Rattle.components.specs.Pieces.{file_of, place_in}
 use Rattle.components.proofs.FileBytesLaws.{at_some, at_none}
 use Rattle.components.specs.Files.{File, gone, byte_at}
@@ -45,10 +41,10 @@ use Rattle.joins.specs.FilesAt.{files_at, held_at}
 
 -- something that is there just if a test says so
 abbrev pub given : {A : Type 0} → Bool → A → Option A
-given b x = cond b (some x) none
+given b x = cond b (Some x) None
 
 -- what was there was let through, and is it
-pub given_back : {A : Type 0} (b : Bool) (x y : A) → given b x ≡ some y → (b ≡ true) × (x ≡ y)
+pub given_back : {A : Type 0} (b : Bool) (x y : A) → given b x ≡ Some y → (b ≡ true) × (x ≡ y)
 given_back true x y e = (refl, (cc))
 given_back false x y e = let z : ◌≡◌ {A = ℕ} 0 1 = cc in absurd (omega arith)
 
@@ -59,7 +55,7 @@ given-cons true false x l = refl
 given-cons false b x l = refl
 
 -- an element of a list, if there is one
-element : (l : List ℕ) (i : ℕ) → get_elem? l i ≡ given (leb (i + 1) (length l)) (get_or l i 0)
+element : (l : List ℕ) (i : ℕ) → slice_get l i ≡ given (leb (i + 1) (length l)) (get_or l i 0)
 element l i =
     order i (length l)
     (λ (h : i < length l). at_some l i h ∙ rw (le-leb (i + 1) (length l) (omega arith)))
@@ -69,32 +65,32 @@ element l i =
 
 -- a file's byte, of a tracked one alone or of any
 abbrev byte_or : Bool → File → ℕ → Option ℕ
-byte_or only f k = cond (cond only f.tracked true && f.there) (get_elem? f.bytes k) none
+byte_or only f k = cond (cond only f.tracked true && f.there) (slice_get f.bytes k) None
 
 byte-with : (only : Bool) (t : Tracking) (bytes : List ℕ) (k : ℕ)
     → byte_or only (file_with bytes t) k ≡ given (cond only (is_tracked t) true && leb (k + 1) (length bytes)) (get_or bytes k 0)
 byte-with only t bytes k =
     decide (cond only (is_tracked t) true) (λ (e : cond only (is_tracked t) true ≡ true). rw e (element bytes k)) (λ (e : cond only (is_tracked t) true ≡ false). rw e)
 
-byte-gone : (only : Bool) (k : ℕ) → byte_or only gone k ≡ none
+byte-gone : (only : Bool) (k : ℕ) → byte_or only gone k ≡ None
 byte-gone true k = refl
 byte-gone false k = refl
 
 module _ (d s : List ℕ) (sound : Sound d) (place : ℕ) where
   -- the file of a number is that of the slot that a search finds
-  file-found : (n i : ℕ) → find_in d place n ≡ At i → files_at (areas d s) place n ≡ file_with (file_bytes d i) (tracking_of s i)
+  file-found : (n i : ℕ) → find_in d place n ≡ Some i → files_at (areas d s) place n ≡ file_with (file_bytes d i) (tracking_of s i)
   file-found n i e =
       let low : i < slots d = find-low d place n i e in
       file-in (disk_of d) (session_of s).tracking place n i (sym (find-slot d place n) ∙ e)
       ∙ rw (bytes-in d i low, tracking-at s i (omega (arith, sound.head.few)))
 
-  byte-found : (only : Bool) (n k : ℕ) (found : Found) → find_in d place n ≡ found
+  byte-found : (only : Bool) (n k : ℕ) (found : Option ℕ) → find_in d place n ≡ found
       → byte_or only (files_at (areas d s) place n) k ≡ given (reaches d s only (k + 1) found) (get_or (bytes_of d found) k 0)
-  byte-found only n k (At i) e =
+  byte-found only n k (Some i) e =
       rw (file-found n i e) (byte-with only (tracking_of s i) (file_bytes d i) k ∙ rw (length-file d sound i (find-low d place n i e)))
-  byte-found only n k Nothing e = rw (file-out (disk_of d) (session_of s).tracking place n (sym (find-slot d place n) ∙ e)) (byte-gone only k)
+  byte-found only n k None e = rw (file-out (disk_of d) (session_of s).tracking place n (sym (find-slot d place n) ∙ e)) (byte-gone only k)
 
-  module _ (tape : List ℕ) (named : find_name d directories tape ≡ At place) (fs o : ℕ) where
+  module _ (tape : List ℕ) (named : find_name d directories tape ≡ Some place) (fs o : ℕ) where
     byte-named : (only : Bool) → byte_or only (files_at (areas d s) place (file_of fs o)) (place_in fs o) ≡ given (can_read_at d s only tape fs o) (byte_of d tape fs o)
     unfolding piece_lies find_file
     byte-named only = rw named (byte-found only (file_of fs o) (place_in fs o) (find_in d place (file_of fs o)) refl)
@@ -168,7 +164,7 @@ module _ (d s : List ℕ) (p o n : ℕ) where
         let next : o - (ring_of s p).first + 1 ≡ o + 1 - (ring_of s p).first = omega arith in
         rw (none_here, none-there, sub-zero (suc n), sub-zero n, next)
 
-module _ (d s : List ℕ) (sound : Sound d) (p place unwritten : ℕ) (named : directory_of d s p ≡ At place) where
+module _ (d s : List ℕ) (sound : Sound d) (p place unwritten : ℕ) (named : directory_of d s p ≡ Some place) where
   abbrev now : Held
   now = held_at (areas d s) place p unwritten
 
@@ -178,7 +174,7 @@ module _ (d s : List ℕ) (sound : Sound d) (p place unwritten : ℕ) (named : d
   unfolding byte_in
   held_below o below = rw (not-from-cache (ring_of s p) o below) (byte-tracked d s sound place (name s names_at p) named (file_size_of s p) o)
 
-  held-from : (o : ℕ) → (ring_of s p).first ≤ o → byte_in (file_size_of s p) now o ≡ some (ring_at (ring_of s p) (ring_bytes s p) o)
+  held-from : (o : ℕ) → (ring_of s p).first ≤ o → byte_in (file_size_of s p) now o ≡ Some (ring_at (ring_of s p) (ring_bytes s p) o)
   unfolding byte_in
   held-from o from = rw (from-cache (ring_of s p) o from)
 
@@ -203,12 +199,12 @@ module _ (d s : List ℕ) (sound : Sound d) (p place unwritten : ℕ) (named : d
       ))
 
   -- what is fetched is served
-  pub fetch-served : (o n : ℕ) (bs : List ℕ) → fetch (file_size_of s p) now o n ≡ some bs → (can_serve d s p o n ≡ true) × (served d s p o n ≡ bs)
+  pub fetch-served : (o n : ℕ) (bs : List ℕ) → fetch (file_size_of s p) now o n ≡ Some bs → (can_serve d s p o n ≡ true) × (served d s p o n ≡ bs)
   fetch-served o n bs e = given_back (can_serve d s p o n) (served d s p o n) bs (sym (fetch-serves o n) ∙ e)
 
 -- ---- of the disk alone
 
-module _ (d s : List ℕ) (sound : Sound d) (tape : List ℕ) (place : ℕ) (named : find_name d directories tape ≡ At place) (fs : ℕ) where
+module _ (d s : List ℕ) (sound : Sound d) (tape : List ℕ) (place : ℕ) (named : find_name d directories tape ≡ Some place) (fs : ℕ) where
   pub load-reads : (o n : ℕ) → load fs (files_at (areas d s) place) o n ≡ given (can_read d s false tape fs o n) (read_run d tape fs o n)
   unfolding load read_run
   load-reads o zero = rw (can_read-none d s false tape fs o)
@@ -216,5 +212,5 @@ module _ (d s : List ℕ) (sound : Sound d) (tape : List ℕ) (place : ℕ) (nam
       rw (can-next d s false tape fs o n, byte-there d s sound place tape named fs o, load-reads (o + 1) n)
       (given-cons (can_read_at d s false tape fs o) (can_read d s false tape fs (o + 1) n) (byte_of d tape fs o) (read_run d tape fs (o + 1) n))
 
-  pub load_read : (o n : ℕ) (bs : List ℕ) → load fs (files_at (areas d s) place) o n ≡ some bs → (can_read d s false tape fs o n ≡ true) × (read_run d tape fs o n ≡ bs)
+  pub load_read : (o n : ℕ) (bs : List ℕ) → load fs (files_at (areas d s) place) o n ≡ Some bs → (can_read d s false tape fs o n ≡ true) × (read_run d tape fs o n ≡ bs)
   load_read o n bs e = given_back (can_read d s false tape fs o n) (read_run d tape fs o n) bs (sym (load-reads o n) ∙ e)

@@ -1,12 +1,10 @@
 -- Some files of one directory gone from a disk, each with its slot: what the rest of the disk then shows. Removal and emptying are such steps. Said of the
 -- meaning; the last section brings it to the bytes. Assumes nothing.
-use Rattle.std.specs.Prelude.{◌≡◌, refl, ◌≢◌, Bool, true, false, cond, not, List, ℕ, ◌+◌, ◌≤◌, ◌<◌, eqb}
+use Rattle.std.specs.Prelude.{◌≡◌, refl, ◌≢◌, Bool, true, false, cond, not, List, ℕ, ◌+◌, ◌≤◌, ◌<◌, eqb, Option, Some, None}
 use Rattle.std.proofs.Common.{sym, ap, ◌∙◌, true≢false, arith, eqb-true, ne_eqb}
 use Rattle.std.proofs.Math.Path.{fun_ext}
 use Rattle.octets.specs.First.{first, first-same, first-never, first-at, first-hits, first-misses, count-within}
 use Rattle.octets.specs.Cases.{decide, and_l, and_r}
-use Rattle.octets.specs.declared.Found.{Found}
-use Rattle.octets.specs.declared.Found.TheVariants.{At, Nothing}
 use Rattle.layout.specs.Disk.{slots, owner}
 use Rattle.disk.specs.Meaning.{Slot, Disk, free, disk_of, slot_with, file_count}
 use Rattle.disk.specs.MeaningLaws.{owner-in, number_in_lem, slots-in, find-slot, files-count}
@@ -44,19 +42,19 @@ single-once d h =
 
 module _ (m : Disk) (h : Single m) (place k : ℕ) where
   -- a slot with the directory's number k is the one that is found
-  pub has_one : (i j : ℕ) → slot_with m place k ≡ At i → j < m.slots → has m place k j ≡ true → i ≡ j
+  pub has_one : (i j : ℕ) → slot_with m place k ≡ Some i → j < m.slots → has m place k j ≡ true → i ≡ j
   has_one i j e low t =
       let found = with-is m place k i e in
       let mine : (m.slot j).owner ≡ place + 1 = eqb-true _ _ (and_l _ _ t) in
       let same : (m.slot j).number ≡ k = eqb-true _ _ (and_r (eqb (m.slot j).owner (place + 1)) _ t) in
       h.single i j (with-low m place k i e) low (λ z. omega arith) (found.0 ∙ sym mine) (found.1 ∙ sym same)
 
-  pub slot_is : (i : ℕ) → i < m.slots → has m place k i ≡ true → slot_with m place k ≡ At i
+  pub slot_is : (i : ℕ) → i < m.slots → has m place k i ≡ true → slot_with m place k ≡ Some i
   slot_is i low t = by (slot_with m place k) refl
     where
-      by : (f : Found) → slot_with m place k ≡ f → slot_with m place k ≡ At i
-      by (At j) e = e ∙ ap At (has_one j i e low t)
-      by Nothing e = absurd (true≢false (sym t ∙ first-misses (has m place k) m.slots 0 e i (omega arith) (omega arith)))
+      by : (f : Option ℕ) → slot_with m place k ≡ f → slot_with m place k ≡ Some i
+      by (Some j) e = e ∙ ap Some (has_one j i e low t)
+      by None e = absurd (true≢false (sym t ∙ first-misses (has m place k) m.slots 0 e i (omega arith) (omega arith)))
 
 -- ---- some slots of a directory freed
 
@@ -97,7 +95,7 @@ module _ (m n : Disk) (place : ℕ) (goes : ℕ → Bool) (freed : Freed m n pla
 
   -- one of the directory: it is gone, or it stays, or it never was
   module _ (k : ℕ) where
-    pub slot-left : Single m → (i : ℕ) → slot_with m place k ≡ At i → goes i ≡ true → slot_with n place k ≡ Nothing
+    pub slot-left : Single m → (i : ℕ) → slot_with m place k ≡ Some i → goes i ≡ true → slot_with n place k ≡ None
     slot-left h i e g =
         among place k
         ∙ first-never (has n place k) m.slots 0
@@ -113,7 +111,7 @@ module _ (m n : Disk) (place : ℕ) (goes : ℕ → Bool) (freed : Freed m n pla
         absurd (true≢false (sym g ∙ ap goes same ∙ t)))
         (λ x. x)))
 
-    pub slot-stays : (i : ℕ) → slot_with m place k ≡ At i → goes i ≡ false → slot_with n place k ≡ At i
+    pub slot-stays : (i : ℕ) → slot_with m place k ≡ Some i → goes i ≡ false → slot_with n place k ≡ Some i
     slot-stays i e g =
         let hit = first-hits (has m place k) m.slots 0 i e in
         let low = with-low m place k i e in
@@ -129,7 +127,7 @@ module _ (m n : Disk) (place : ℕ) (goes : ℕ → Bool) (freed : Freed m n pla
               (λ (t : goes j ≡ false). has_kept place k j (omega arith) t ∙ hit.before j l u);
         })
 
-    pub slot-never : slot_with m place k ≡ Nothing → slot_with n place k ≡ Nothing
+    pub slot-never : slot_with m place k ≡ None → slot_with n place k ≡ None
     slot-never e =
         among place k
         ∙ first-never (has n place k) m.slots 0
@@ -174,8 +172,8 @@ files-other : (m n : Disk) (t u : ℕ → Tracking) (place : ℕ) (goes : ℕ �
     → (q : ℕ) → q ≢ place → files_of n u q ≡ files_of m t q
 files-other m n t u place goes freed rest q apart = fun_ext (λ (k : ℕ). by k (slot_with m q k) refl)
   where
-    by : (k : ℕ) (f : Found) → slot_with m q k ≡ f → files_of n u q k ≡ files_of m t q k
-    by k (At i) e =
+    by : (k : ℕ) (f : Option ℕ) → slot_with m q k ≡ f → files_of n u q k ≡ files_of m t q k
+    by k (Some i) e =
         let found = with-is m q k i e in
         let low = with-low m q k i e in
         let away : (m.slot i).owner ≢ place + 1 = λ z. apart (omega arith) in
@@ -183,7 +181,7 @@ files-other m n t u place goes freed rest q apart = fun_ext (λ (k : ℕ). by k 
         file-in n u q k i (slot-other m n place goes freed q k apart ∙ e)
         ∙ (rw (slot_kept m n place goes freed i low stays, rest i low away))
         ∙ sym (file-in m t q k i e)
-    by k Nothing e = file-out n u q k (slot-other m n place goes freed q k apart ∙ e) ∙ sym (file-out m t q k e)
+    by k None e = file-out n u q k (slot-other m n place goes freed q k apart ∙ e) ∙ sym (file-out m t q k e)
 
 -- ---- both areas
 

@@ -1,6 +1,6 @@
 -- A file made, or met again, and tracked: in the files of its directory its number is reached (`Covers.antt`), those of other directories stay, each file
 -- still stands in one slot, and there is one file more if it was not there. Assumes nothing.
-use Rattle.std.specs.Prelude.{◌≡◌, refl, ◌≢◌, Bool, true, false, cond, not, List, ℕ, zero, suc, ◌+◌, ◌≤◌, ◌<◌, ◌^◌}
+use Rattle.std.specs.Prelude.{◌≡◌, refl, ◌≢◌, Bool, true, false, cond, not, List, ℕ, zero, suc, ◌+◌, ◌≤◌, ◌<◌, ◌^◌, Option, Some, None}
 use Rattle.std.proofs.Common.{sym, ap, ◌∙◌, arith, eq-eqb}
 use Rattle.std.proofs.Math.Path.{fun_ext}
 use Rattle.octets.specs.Number.{Bytes}
@@ -8,8 +8,6 @@ use Rattle.octets.specs.Only.{num_at-only}
 use Rattle.octets.specs.Words.{with_row}
 use Rattle.octets.specs.First.{first-misses, count}
 use Rattle.octets.specs.Cases.{decide, equal}
-use Rattle.octets.specs.declared.Found.{Found}
-use Rattle.octets.specs.declared.Found.TheVariants.{At, Nothing}
 use Rattle.components.specs.Files.{File, gone}
 use Rattle.layout.specs.Disk.{entry_at, slots, owner, number, Sound}
 use Rattle.layout.specs.Session.{Begun}
@@ -45,7 +43,7 @@ unfolding on_disk
 on-slot d q k = ap is_found (find-slot d q k)
 
 -- a number that the search misses, no slot has
-missed : (d : List ℕ) (place n : ℕ) → find_in d place n ≡ Nothing → (j : ℕ) → j < slots d → owner d j ≡ place + 1 → number d j ≡ n → ⊥
+missed : (d : List ℕ) (place n : ℕ) → find_in d place n ≡ None → (j : ℕ) → j < slots d → owner d j ≡ place + 1 → number d j ≡ n → ⊥
 unfolding find_in
 missed d place n e j l own same =
     let no_hit : is_file d place n j ≡ false = first-misses (is_file d place n) (slots d) 0 e j (omega arith) (omega arith) in
@@ -59,7 +57,7 @@ count-all p zero i h = refl
 count-all p (suc k) i h = rw (h i (omega arith) (omega arith), count-all p k (i + 1) (λ j l m. h j (omega arith) (omega arith))) (omega arith)
 
 -- where the files are fewer than the slots, one is free
-free-there : (d : List ℕ) → files d < slots d → free_slot d ≡ Nothing → ⊥
+free-there : (d : List ℕ) → files d < slots d → free_slot d ≡ None → ⊥
 unfolding files free_slot
 free-there d few e =
     let all = count-all (λ i. not (is_free d i)) (slots d) 0 (λ j l h. rw (first-misses (is_free d) (slots d) 0 e j l h)) in
@@ -83,11 +81,11 @@ module _ (d s : List ℕ) (place n : ℕ) (sound : Sound d) (begun : Begun s) (b
   rows = (session_of s).tracking
 
   -- its file is there
-  module _ (i : ℕ) (e : find_in d place n ≡ At i) where
+  module _ (i : ℕ) (e : find_in d place n ≡ Some i) where
     low : i < 64
     low = omega (arith, find-low d place n i e, sound.head.few)
 
-    met : slot_with (disk_of d) place n ≡ At i
+    met : slot_with (disk_of d) place n ≡ Some i
     met = sym (find-slot d place n) ∙ e
 
     is-there : on_disk d place n ≡ true
@@ -138,7 +136,7 @@ module _ (d s : List ℕ) (place n : ℕ) (sound : Sound d) (begun : Begun s) (b
         })
 
   -- it is not, and is made in a free slot
-  module _ (i : ℕ) (missing : find_in d place n ≡ Nothing) (spare : free_slot d ≡ At i) (directory : place < 8) (fits : n < 256 ^ 8) where
+  module _ (i : ℕ) (missing : find_in d place n ≡ None) (spare : free_slot d ≡ Some i) (directory : place < 8) (fits : n < 256 ^ 8) where
     abbrev entry : Entry
     entry = record { owner = place + 1; number = n; len = 0 }
 
@@ -151,7 +149,7 @@ module _ (d s : List ℕ) (place n : ℕ) (sound : Sound d) (begun : Begun s) (b
     was_free : ((disk_of d).slot i).owner ≡ 0
     was_free = owner-in d i room ∙ free-is d i spare
 
-    no-slot : slot_with (disk_of d) place n ≡ Nothing
+    no-slot : slot_with (disk_of d) place n ≡ None
     no-slot = sym (find-slot d place n) ∙ missing
 
     room_in : i < (disk_of d).slots
@@ -245,13 +243,13 @@ module _ (d s : List ℕ) (place n : ℕ) (sound : Sound d) (begun : Begun s) (b
   pub made : place < 8 → n < 256 ^ 8 → files d + cond (on_disk d place n) 0 1 ≤ slots d → Made a (make_tracked a place n) place n
   made directory fits room = by (find_in d place n) refl
     where
-      fresh : find_in d place n ≡ Nothing → (f : Found) → free_slot d ≡ f → Made a (make_tracked a place n) place n
-      fresh e (At i) h = made-new i e h directory fits
-      fresh e Nothing h =
+      fresh : find_in d place n ≡ None → (f : Option ℕ) → free_slot d ≡ f → Made a (make_tracked a place n) place n
+      fresh e (Some i) h = made-new i e h directory fits
+      fresh e None h =
           let out : on_disk d place n ≡ false = not-on-disk d place n e in
           let more : files d + 1 ≤ slots d = rw out at room in
           absurd (free-there d (omega arith) h)
 
-      by : (f : Found) → find_in d place n ≡ f → Made a (make_tracked a place n) place n
-      by (At i) e = decide (is_tracked (tracking_of s i)) (made_kept i e) (made-met i e)
-      by Nothing e = fresh e (free_slot d) refl
+      by : (f : Option ℕ) → find_in d place n ≡ f → Made a (make_tracked a place n) place n
+      by (Some i) e = decide (is_tracked (tracking_of s i)) (made_kept i e) (made-met i e)
+      by None e = fresh e (free_slot d) refl

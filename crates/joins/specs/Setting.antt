@@ -1,14 +1,12 @@
 -- The pieces of a run written into files that are there: in the files of its directory its bytes are set (`Covers.antt`), those of other directories stay,
 -- and of the file table only lengths change. Assumes nothing.
-use Rattle.std.specs.Prelude.{◌≡◌, refl, ◌≢◌, true, List, [], ◌∷◌, ℕ, ◌+◌, ◌≤◌, ◌<◌, length}
+use Rattle.std.specs.Prelude.{◌≡◌, refl, ◌≢◌, true, List, [], ◌∷◌, ℕ, ◌+◌, ◌≤◌, ◌<◌, length, Option, Some, None}
 use Rattle.std.proofs.Common.{sym, ◌∙◌, add-zero, add_assoc, arith, eq-eqb, ne_eqb}
 use Rattle.std.proofs.Math.Path.{ap, fun_ext}
 use Rattle.std.proofs.Math.Bool.{not}
 use Rattle.std.proofs.lemmas.Bool.{false≢true}
 use Rattle.octets.specs.First.{first, first-same, count, count_same}
 use Rattle.octets.specs.Cases.{equal}
-use Rattle.octets.specs.declared.Found.{Found}
-use Rattle.octets.specs.declared.Found.TheVariants.{At, Nothing}
 use Rattle.components.specs.Pieces.{file_of, place_in}
 use Rattle.components.specs.PiecesLaws.{place-lt}
 use Rattle.components.specs.FileBytes.{written}
@@ -91,7 +89,7 @@ pub record Set (d u : List ℕ) (place fs o : ℕ) (bs : List ℕ) : Type 0 wher
   pub table : SameTable d u
 
 -- one byte
-module _ (d : List ℕ) (place fs o b i : ℕ) (sound : Sound d) (z : 0 < fs) (small : fs ≤ 4096) (e : find_in d place (file_of fs o) ≡ At i) where
+module _ (d : List ℕ) (place fs o b i : ℕ) (sound : Sound d) (z : 0 < fs) (small : fs ≤ 4096) (e : find_in d place (file_of fs o) ≡ Some i) where
   abbrev n : ℕ
   n = file_of fs o
 
@@ -119,7 +117,7 @@ module _ (d : List ℕ) (place fs o b i : ℕ) (sound : Sound d) (z : 0 < fs) (s
   found : (q k : ℕ) → slot_with (disk_of new) q k ≡ slot_with (disk_of d) q k
   found q k = sym (find-slot new q k) ∙ find-table d new byte-table q k ∙ find-slot d q k
 
-  met : slot_with (disk_of d) place n ≡ At i
+  met : slot_with (disk_of d) place n ≡ Some i
   met = sym (find-slot d place n) ∙ e
 
   bytes-own : ((disk_of new).slot i).bytes ≡ bytes
@@ -140,8 +138,8 @@ module _ (d : List ℕ) (place fs o b i : ℕ) (sound : Sound d) (z : 0 < fs) (s
     byte-other : (q k : ℕ) → (q ≡ place → k ≢ n) → files_of (disk_of new) t q k ≡ files_of (disk_of d) t q k
     byte-other q k apart = by (slot_with (disk_of d) q k) refl
       where
-        by : (f : Found) → slot_with (disk_of d) q k ≡ f → files_of (disk_of new) t q k ≡ files_of (disk_of d) t q k
-        by (At j) h =
+        by : (f : Option ℕ) → slot_with (disk_of d) q k ≡ f → files_of (disk_of new) t q k ≡ files_of (disk_of d) t q k
+        by (Some j) h =
             let here = with-is (disk_of d) place n i met in
             let there = with-is (disk_of d) q k j h in
             let differ : j ≢ i = λ (p : j ≡ i).
@@ -151,7 +149,7 @@ module _ (d : List ℕ) (place fs o b i : ℕ) (sound : Sound d) (z : 0 < fs) (s
             file-in (disk_of new) t q k j (found q k ∙ h)
             ∙ ap (λ (l : List ℕ). file_with l (t j)) (bytes-other j differ)
             ∙ sym (file-in (disk_of d) t q k j h)
-        by Nothing h = file-out (disk_of new) t q k (found q k ∙ h) ∙ sym (file-out (disk_of d) t q k h)
+        by None h = file-out (disk_of new) t q k (found q k ∙ h) ∙ sym (file-out (disk_of d) t q k h)
 
     byte-set : files_of (disk_of new) t place ≡ set_byte fs (files_of (disk_of d) t place) o b
     byte-set =
@@ -161,13 +159,13 @@ module _ (d : List ℕ) (place fs o b i : ℕ) (sound : Sound d) (z : 0 < fs) (s
         (λ (h : k ≡ n). rw h byte-own)
         (λ (h : k ≢ n). byte-other place k (λ _. h) ∙ sym (set_other fs (files_of (disk_of d) t place) o b k h)))
 
-found-on : (d : List ℕ) (place n : ℕ) → on_disk d place n ≡ true → (i : ℕ) × (find_in d place n ≡ At i)
+found-on : (d : List ℕ) (place n : ℕ) → on_disk d place n ≡ true → (i : ℕ) × (find_in d place n ≡ Some i)
 unfolding on_disk
 found-on d place n = by (find_in d place n) refl
   where
-    by : (f : Found) → find_in d place n ≡ f → is_found (find_in d place n) ≡ true → (i : ℕ) × (find_in d place n ≡ At i)
-    by (At i) e h = (i, e)
-    by Nothing e h = absurd (false≢true (sym (ap is_found e) ∙ h))
+    by : (f : Option ℕ) → find_in d place n ≡ f → is_found (find_in d place n) ≡ true → (i : ℕ) × (find_in d place n ≡ Some i)
+    by (Some i) e h = (i, e)
+    by None e h = absurd (false≢true (sym (ap is_found e) ∙ h))
 
 -- a run, whose numbers are all there
 pub set-run : (place fs : ℕ) → 0 < fs → fs ≤ 4096 → (bs d : List ℕ) (o : ℕ) → Sound d → ((j : ℕ) → j < length bs → on_disk d place (file_of fs (o + j)) ≡ true)

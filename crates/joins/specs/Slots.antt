@@ -1,14 +1,12 @@
 -- A directory's file tracked in its slot, and one made in a free slot, as the meaning of the two areas has them: what becomes of the files of that directory
 -- and of the others. Assumes nothing.
-use Rattle.std.specs.Prelude.{◌≡◌, refl, ◌≢◌, false, cond, ◌&&◌, List, ℕ, ◌+◌, ◌≤◌, ◌<◌, eqb, ltb}
+use Rattle.std.specs.Prelude.{◌≡◌, refl, ◌≢◌, false, cond, ◌&&◌, List, ℕ, ◌+◌, ◌≤◌, ◌<◌, eqb, ltb, Option, Some, None}
 use Rattle.std.proofs.Common.{sym, ap, ◌∙◌, arith, eq-eqb, ne_eqb, lt-ltb, le-ltb}
 use Rattle.std.proofs.Math.Path.{fun_ext}
 use Rattle.octets.specs.Number.{Bytes}
 use Rattle.octets.specs.Words.{with_row, table-out}
 use Rattle.octets.specs.First.{first-same, first-at, first-misses}
 use Rattle.octets.specs.Cases.{order, equal}
-use Rattle.octets.specs.declared.Found.{Found}
-use Rattle.octets.specs.declared.Found.TheVariants.{At, Nothing}
 use Rattle.components.specs.Files.{File, Files, untracked}
 use Rattle.layout.specs.Disk.{slots}
 use Rattle.layout.specs.Session.{Begun}
@@ -32,26 +30,26 @@ use Rattle.joins.specs.Covers.{reached, reached-own, reached-other}
 
 module _ (m : Disk) (t : ℕ → Tracking) (i : ℕ) (r : Tracking) (q k : ℕ) where
   -- the file of another slot
-  row_other : (slot_with m q k ≡ At i → ⊥) → files_of m (with_row t i r) q k ≡ files_of m t q k
+  row_other : (slot_with m q k ≡ Some i → ⊥) → files_of m (with_row t i r) q k ≡ files_of m t q k
   row_other apart = by (slot_with m q k) refl
     where
-      by : (found : Found) → slot_with m q k ≡ found → files_of m (with_row t i r) q k ≡ files_of m t q k
-      by (At j) e =
-          let other : with_row t i r j ≡ t j = rw (ne_eqb j i (λ (same : j ≡ i). apart (e ∙ ap At same))) in
+      by : (found : Option ℕ) → slot_with m q k ≡ found → files_of m (with_row t i r) q k ≡ files_of m t q k
+      by (Some j) e =
+          let other : with_row t i r j ≡ t j = rw (ne_eqb j i (λ (same : j ≡ i). apart (e ∙ ap Some same))) in
           file-in m (with_row t i r) q k j e ∙ ap (file_with (m.slot j).bytes) other ∙ sym (file-in m t q k j e)
-      by Nothing e = file-out m (with_row t i r) q k e ∙ sym (file-out m t q k e)
+      by None e = file-out m (with_row t i r) q k e ∙ sym (file-out m t q k e)
 
-  row-own : slot_with m q k ≡ At i → files_of m (with_row t i r) q k ≡ file_with (m.slot i).bytes r
+  row-own : slot_with m q k ≡ Some i → files_of m (with_row t i r) q k ≡ file_with (m.slot i).bytes r
   row-own e =
       let own : with_row t i r i ≡ r = rw (eq-eqb i i refl) in
       file-in m (with_row t i r) q k i e ∙ ap (file_with (m.slot i).bytes) own
 
 -- slot i has file n of the directory, untracked so far: with it tracked and those above untracked, its number is reached
-module _ (m : Disk) (t : ℕ → Tracking) (place n i : ℕ) (e : slot_with m place n ≡ At i) where
+module _ (m : Disk) (t : ℕ → Tracking) (place n i : ℕ) (e : slot_with m place n ≡ Some i) where
   abbrev tracks : ℕ → Tracking
   tracks = with_row (changed_in m place (UntrackAbove n) t) i Tracked
 
-  not-its-slot : (q k : ℕ) → (q ≡ place → k ≢ n) → slot_with m q k ≡ At i → ⊥
+  not-its-slot : (q k : ℕ) → (q ≡ place → k ≢ n) → slot_with m q k ≡ Some i → ⊥
   not-its-slot q k apart h =
       let old = with-is m place n i e in
       let new = with-is m q k i h in
@@ -77,11 +75,11 @@ module _ (m : Disk) (t : ℕ → Tracking) (place n i : ℕ) (e : slot_with m pl
 
 -- ---- a file made in a free slot
 
-module _ (m : Disk) (place n i : ℕ) (missing : slot_with m place n ≡ Nothing) (low : i < m.slots) (was_free : (m.slot i).owner ≡ 0) where
+module _ (m : Disk) (place n i : ℕ) (missing : slot_with m place n ≡ None) (low : i < m.slots) (was_free : (m.slot i).owner ≡ 0) where
   abbrev with_file : Disk
   with_file = with_slot m i (new_file place n)
 
-  pub made_found : slot_with with_file place n ≡ At i
+  pub made_found : slot_with with_file place n ≡ Some i
   made_found =
       first-at (has with_file place n) m.slots 0 i
       (record {
@@ -112,13 +110,13 @@ module _ (m : Disk) (place n i : ℕ) (missing : slot_with m place n ≡ Nothing
   pub files-else : (t : ℕ → Tracking) (q k : ℕ) → (q ≡ place → k ≢ n) → files_of with_file t q k ≡ files_of m t q k
   files-else t q k other = by (slot_with m q k) refl
     where
-      by : (found : Found) → slot_with m q k ≡ found → files_of with_file t q k ≡ files_of m t q k
-      by (At j) e =
+      by : (found : Option ℕ) → slot_with m q k ≡ found → files_of with_file t q k ≡ files_of m t q k
+      by (Some j) e =
           let found = with-is m q k j e in
           let apart : j ≢ i = λ (h : j ≡ i). let own : (m.slot j).owner ≡ 0 = ap (λ (x : ℕ). (m.slot x).owner) h ∙ was_free in omega arith in
           let kept : with_file.slot j ≡ m.slot j = rw (ne_eqb j i apart) in
           file-in with_file t q k j (made-else q k other ∙ e) ∙ ap (λ (x : Slot). file_with x.bytes (t j)) kept ∙ sym (file-in m t q k j e)
-      by Nothing e = file-out with_file t q k (made-else q k other ∙ e) ∙ sym (file-out m t q k e)
+      by None e = file-out with_file t q k (made-else q k other ∙ e) ∙ sym (file-out m t q k e)
 
 -- ---- the session's rows
 

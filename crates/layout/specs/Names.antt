@@ -1,12 +1,11 @@
 -- A table of eight names (`docs/LAYOUT.md`): at each place a word with the number of its bytes, and room for 24. The disk's directories and the session's
 -- tapes are such tables. A place whose name is empty is free. Assumes nothing.
-use Rattle.std.specs.Prelude.{Bool, List, [], ℕ, ◌+◌, ◌*◌, ◌≤◌, ◌<◌, leb, length, take, drop}
+use Rattle.std.specs.Prelude.{Bool, List, [], ℕ, ◌+◌, ◌*◌, ◌≤◌, ◌<◌, leb, length, take, drop, Option}
 use Rattle.octets.specs.Bytes.{put}
 use Rattle.octets.specs.Number.{num_at, put_num}
 use Rattle.octets.specs.Compare.{same_bytes}
 use Rattle.octets.specs.First.{first}
 use Rattle.octets.specs.Words.{table}
-use Rattle.octets.specs.declared.Found.{Found}
 
 abbrev pub place_at : ℕ → ℕ → ℕ
 place_at base i = base + i * 32
@@ -30,7 +29,7 @@ abbrev pub names : List ℕ → ℕ → ℕ → List ℕ
 names s base = table 8 [] (name s base)
 
 -- the first place that has this name; of the empty name, the first free place
-unfoldable pub find_name : List ℕ → ℕ → List ℕ → Found
+unfoldable pub find_name : List ℕ → ℕ → List ℕ → Option ℕ
 find_name s base wanted = first (λ i. same_bytes (name s base i) wanted) 8 0
 
 unfoldable pub put_name : List ℕ → ℕ → ℕ → List ℕ → List ℕ

@@ -1,6 +1,6 @@
 -- Laws of a table of names: the rule as a test and as facts, what a step elsewhere leaves alone, and what a name put at one place does to the table.
 -- Assumes nothing.
-use Rattle.std.specs.Prelude.{◌≡◌, ◌≢◌, true, ℕ, ◌+◌, ◌≤◌, ◌<◌, drop}
+use Rattle.std.specs.Prelude.{◌≡◌, ◌≢◌, true, ℕ, ◌+◌, ◌≤◌, ◌<◌, drop, Some}
 use Rattle.std.proofs.Common.{sym, ◌∙◌, arith, le-leb, leb-true}
 use Rattle.std.proofs.Math.Path.{ap}
 use mathlib.Core.List.{List, []}
@@ -12,7 +12,6 @@ use Rattle.octets.specs.Cases.{equal}
 use Rattle.octets.specs.Compare.{same_bytes}
 use Rattle.octets.specs.First.{first, first-same, first-hits, all, all_true, all-holds}
 use Rattle.octets.specs.Words.{with_row, table-in, table_same, table-row}
-use Rattle.octets.specs.declared.Found.TheVariants.{At}
 use Rattle.layout.specs.Names.{place_at, letters, name_fits, NamesFit, name, names, find_name, put_name}
 
 -- ---- the rule, and what it gives
@@ -39,7 +38,7 @@ module _ (s : List ℕ) (base : ℕ) where
       (λ i l h. ap (λ (n : List ℕ). same_bytes n w) (sym (table-in 8 [] (name s base) i (omega arith))))
 
   -- a place that is found is one of eight
-  pub name-low : (w : List ℕ) (p : ℕ) → find_name s base w ≡ At p → p < 8
+  pub name-low : (w : List ℕ) (p : ℕ) → find_name s base w ≡ Some p → p < 8
   unfolding find_name
   name-low w p e = (first-hits _ 8 0 p e).high
 

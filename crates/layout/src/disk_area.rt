@@ -107,11 +107,8 @@ fn each_fits(disk: &[u8], from: usize, to: usize) -> bool
     requires { HeadSound disk.now × (to ≤ slots disk.now) }
     ensures { result ≡ all (entry_fits disk.now) (to - from) from }
 {
-    let mut i = from;
-    while i < to {
-        if entry_fits(disk, i) {
-            i += 1;
-        } else {
+    for i in from..to {
+        if !entry_fits(disk, i) {
             return false;
         }
     }
@@ -124,11 +121,8 @@ fn eight_fit(disk: &[u8], slot: usize) -> bool
     requires { HeadSound disk.now × (slot + 8 ≤ slots disk.now) }
     ensures { result ≡ all (entry_fits disk.now) 8 slot }
 {
-    let mut i = 0;
-    while i < 8 {
-        if entry_fits(disk, slot + i) {
-            i += 1;
-        } else {
+    for i in 0..8 {
+        if !entry_fits(disk, slot + i) {
             return false;
         }
     }
@@ -157,11 +151,9 @@ fn owners_joined(disk: &[u8], slot: usize) -> usize
     ensures { result ≡ owners_joined disk.now slot }
 {
     let mut joined = 0;
-    let mut i = 0;
-    while i < 8 {
+    for i in 0..8 {
         let owner = octets::u64_at(disk, Disk::ENTRIES + (slot + i) * Disk::ENTRY_BYTES) as usize;
         joined = joined | owner;
-        i += 1;
     }
     joined
 }
@@ -171,11 +163,8 @@ fn lengths_fit(disk: &[u8], slot: usize) -> bool
     requires { (HeadSound disk.now × (slot + 8 ≤ slots disk.now)) × (owners_joined disk.now slot ≤ 8) }
     ensures { result ≡ all (entry_fits disk.now) 8 slot }
 {
-    let mut i = 0;
-    while i < 8 {
-        if length_fits(disk, slot + i) {
-            i += 1;
-        } else {
+    for i in 0..8 {
+        if !length_fits(disk, slot + i) {
             return false;
         }
     }

@@ -5,7 +5,6 @@ ghost use Rattle.octets.specs.First.{all};
 ghost use Rattle.octets.specs.Compare.{same_bytes};
 ghost use Rattle.layout.specs.Names.{NamesFit, name_fits, name, find_name, put_name};
 
-use octets::Found;
 
 // How many bytes a place takes, and how many its name may have.
 const PLACE_BYTES: usize = 32;
@@ -19,12 +18,10 @@ pub fn names_fit(area: &[u8], base: usize) -> bool
     requires { base + 256 ≤ length area.now }
     ensures { result ≡ all (name_fits area.now base) 8 0 }
 {
-    let mut i = 0;
-    while i < MOST_NAMES {
+    for i in 0..MOST_NAMES {
         if MOST_LETTERS < octets::u64_at(area, base + i * PLACE_BYTES) as usize {
             return false;
         }
-        i += 1;
     }
     true
 }
@@ -50,18 +47,16 @@ pub fn has_name(area: &[u8], base: usize, place: usize, wanted: &[u8]) -> bool
 }
 
 // The first place that has this name; of the empty name, the first free place.
-pub fn find_name(area: &[u8], base: usize, wanted: &[u8]) -> Found
+pub fn find_name(area: &[u8], base: usize, wanted: &[u8]) -> Option<usize>
     requires { NamesFit area.now base }
     ensures { result ≡ find_name area.now base wanted.now }
 {
-    let mut i = 0;
-    while i < MOST_NAMES {
+    for i in 0..MOST_NAMES {
         if has_name(area, base, i, wanted) {
-            return Found::At(i);
+            return Some(i);
         }
-        i += 1;
     }
-    Found::Nothing
+    None
 }
 
 // A name written to a place; what stood there behind it stays.

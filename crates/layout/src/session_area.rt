@@ -120,11 +120,8 @@ fn tapes_fit(session: &[u8]) -> bool
     requires { 38728 ≤ length session.now }
     ensures { result ≡ all (tape_fits session.now) 8 0 }
 {
-    let mut i = 0;
-    while i < Session::MOST_TAPES {
-        if tape_fits(session, i) {
-            i += 1;
-        } else {
+    for i in 0..Session::MOST_TAPES {
+        if !tape_fits(session, i) {
             return false;
         }
     }
@@ -137,11 +134,9 @@ fn readers_joined(session: &[u8]) -> u64
     ensures { result ≡ joined (kind_word session.now) 16 }
 {
     let mut joined = 0;
-    let mut i = 0;
-    while i < Session::MOST_READERS {
+    for i in 0..Session::MOST_READERS {
         let at = Session::TRANSACTIONS + i * Session::TRANSACTION_BYTES;
         joined = joined | octets::u64_at(session, at);
-        i += 1;
     }
     joined
 }

@@ -1,6 +1,5 @@
 -- Document 01, "The driver": "hex is lower case", two digits a byte. Assumes nothing.
-use Rattle.std.specs.Prelude.{Bool, true, false, cond, ◌&&◌, ◌||◌, List, [], ◌∷◌, ℕ, ◌+◌, ◌-◌, ◌*◌, ◌/◌, ◌%◌, leb, ltb}
-use Rattle.std.proofs.Math.Option.{Option, none, some}
+use Rattle.std.specs.Prelude.{Bool, true, false, cond, ◌&&◌, ◌||◌, List, [], ◌∷◌, ℕ, ◌+◌, ◌-◌, ◌*◌, ◌/◌, ◌%◌, leb, ltb, Option, Some, None}
 
 -- `0` to `9` and `a` to `f`
 unfoldable pub is_hex_digit : ℕ → Bool
@@ -33,4 +32,4 @@ hex_bytes (a ∷ b ∷ s) = (hex_value a * 16 + hex_value b) ∷ hex_bytes s
 
 -- what a text says, if it is hex
 unfoldable pub bytes_of_hex : List ℕ → Option (List ℕ)
-bytes_of_hex s = cond (is_hex s) (some (hex_bytes s)) none
+bytes_of_hex s = cond (is_hex s) (Some (hex_bytes s)) None

@@ -1,8 +1,7 @@
 -- Laws of hex: the ways out of the tests of a byte, the turns of the loops, and that hex and bytes are the same thing twice. Assumes nothing.
-use Rattle.std.specs.Prelude.{◌≡◌, refl, true, false, ◌&&◌, List, [], ◌∷◌, get_or, set, drop}
+use Rattle.std.specs.Prelude.{◌≡◌, refl, true, false, ◌&&◌, List, [], ◌∷◌, get_or, set, drop, Some}
 use Rattle.std.proofs.Common.{sym, ◌∙◌, add-one, length-drop, drop-cons}
 use Rattle.std.proofs.lemmas.Bool.{false≢true}
-use Rattle.std.proofs.Math.Option.{some}
 use Prim.Native.Nat.{ℕ, zero, suc, ◌+◌, ◌-◌, ◌*◌, ◌/◌, ◌%◌, ◌≤◌, ◌<◌}
 use native.Mathlib.Omega.{arith}
 use borrow.Author.Tests.{le-leb, lt-leb, lt-ltb, le-ltb}
@@ -193,7 +192,7 @@ bytes-hex (b ∷ s) h =
     let e : b / 16 * 16 + b % 16 ≡ b = omega arith in
     rw (digit_value (b / 16) (omega arith), digit_value (b % 16) (omega arith), e, bytes-hex s (λ i. h (suc i)))
 
-pub hex-there : (s : List ℕ) → Bytes s → bytes_of_hex (hex_of s) ≡ some s
+pub hex-there : (s : List ℕ) → Bytes s → bytes_of_hex (hex_of s) ≡ Some s
 unfolding bytes_of_hex
 hex-there s h = rw (hex-is s h, bytes-hex s h)
 

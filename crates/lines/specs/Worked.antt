@@ -1,7 +1,6 @@
 -- Document 01, "The driver": the worked example, its nine lines and the nine replies to them, spelled as their bytes. One table of the definitions, proved by
 -- the one theorem `worked`. Assumes nothing.
-use Rattle.std.specs.Prelude.{◌≡◌, refl, List, [], ◌∷◌, ℕ, get_or}
-use Rattle.std.proofs.Math.Option.{some}
+use Rattle.std.specs.Prelude.{◌≡◌, refl, List, [], ◌∷◌, ℕ, get_or, Some}
 use Rattle.octets.specs.Compare.{same_bytes}
 use Rattle.lines.specs.declared.calls.Call.TheVariants.{Format, Store, Append, Reader, Open, Put, Read, Commit}
 use Rattle.lines.specs.Numbers.{all_digits, value_from, number_of, decimal_in, decimal_of}
@@ -85,7 +84,7 @@ pub record Worked : Type 0 where
   pub says9 : call_of line9 ≡ Read 2 1 0 6
   -- what an open and a put take from their lines
   pub name : get_or (fields line4) 2 [] ≡ 118 ∷ 111 ∷ 116 ∷ 101 ∷ 115 ∷ []
-  pub bytes : bytes_of_hex (get_or (fields line5) 3 []) ≡ some yes
+  pub bytes : bytes_of_hex (get_or (fields line5) 3 []) ≡ Some yes
   pub prints1 : reply_of 1 0 0 [] ≡ reply1
   pub prints2 : reply_of 2 0 0 [] ≡ reply2
   pub prints3 : reply_of 3 0 1 [] ≡ reply3

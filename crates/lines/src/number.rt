@@ -26,7 +26,7 @@ pub fn parse_number(s: &[u8]) -> Parsed
         if b'9' < b {
             return Parsed::Unreadable;
         }
-        let d = octets::wide(b - b'0');
+        let d = u64::from(b - b'0');
         if (18446744073709551615 - d) / 10 < n {
             return Parsed::Unreadable;
         }

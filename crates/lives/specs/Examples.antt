@@ -1,7 +1,6 @@
 -- Lives of a tape, by computation: reopening, a start that was cut back, dropped creations, what is told of an old window after a cut, another file size.
 -- Assumes nothing.
-use Rattle.std.specs.Prelude.{◌≡◌, refl, true, List, [], ◌∷◌, ◌++◌, ℕ, replicate}
-use Rattle.std.proofs.Math.Option.{some}
+use Rattle.std.specs.Prelude.{◌≡◌, refl, true, List, [], ◌∷◌, ◌++◌, ℕ, replicate, Some}
 use Rattle.octets.specs.Bytes as B
 use Rattle.ring_buffer.specs.Ring.{nth, nths, around, pushed, popped, truncated, prepared}
 use Rattle.ring_buffer.specs.Put.{after_put, bytes_after_put, unwritten_of, sent, unwritten_after}
@@ -55,8 +54,8 @@ record Lives : Type 0 where
   lost : asks (append ∷ opens 1 16 6 ∷ put 1 (5 ∷ []) ∷ drop' 1 ∷ append ∷ []) (put 2 (5 ∷ [])) ≡ Refused 2 0
   kept : asks (P ++ (restart ∷ append ∷ opens 1 16 0 ∷ drop' 1 ∷ append ∷ [])) (opens 2 16 0) ≡ Refused 9 0
   -- what is told: the window's page stands after a cut to 4, and the new window sees the cut
-  old : page 2 (tells (P ++ (reader ∷ truncate ∷ cut 3 4 ∷ commit 3 ∷ reader ∷ []))) ≡ some (record { here = true; start = 0; content = 0 ∷ 1 ∷ 2 ∷ 3 ∷ 4 ∷ 5 ∷ 6 ∷ 7 ∷ 8 ∷ 9 ∷ [] })
-  new : page 4 (tells (P ++ (reader ∷ truncate ∷ cut 3 4 ∷ commit 3 ∷ reader ∷ []))) ≡ some (record { here = true; start = 0; content = 0 ∷ 1 ∷ 2 ∷ 3 ∷ [] })
+  old : page 2 (tells (P ++ (reader ∷ truncate ∷ cut 3 4 ∷ commit 3 ∷ reader ∷ []))) ≡ Some (record { here = true; start = 0; content = 0 ∷ 1 ∷ 2 ∷ 3 ∷ 4 ∷ 5 ∷ 6 ∷ 7 ∷ 8 ∷ 9 ∷ [] })
+  new : page 4 (tells (P ++ (reader ∷ truncate ∷ cut 3 4 ∷ commit 3 ∷ reader ∷ []))) ≡ Some (record { here = true; start = 0; content = 0 ∷ 1 ∷ 2 ∷ 3 ∷ [] })
   -- an append waits for the window that is longer than the tape
   waits : asks (P ++ (reader ∷ truncate ∷ cut 3 4 ∷ commit 3 ∷ reader ∷ [])) append ≡ Refused 4 1
   -- a second commit is published too; a dropped append leaves nothing behind; a removal heeds the oldest window

@@ -1,7 +1,6 @@
 -- What ties the store to what is told: of a tape that is open, and of one that sleeps on the disk. Assumes nothing.
-use Rattle.std.specs.Prelude.{◌≡◌, refl, Bool, true, false, ℕ, ◌-◌, ◌≤◌, ◌<◌, length, get_or}
+use Rattle.std.specs.Prelude.{◌≡◌, refl, Bool, true, false, ℕ, ◌-◌, ◌≤◌, ◌<◌, length, get_or, Some}
 use Rattle.std.proofs.Common.{true≢false}
-use Rattle.std.proofs.Math.Option.{some}
 use mathlib.Core.List.{List, map, Memᴰ}
 use Rattle.octets.specs.Cases.{order}
 use Rattle.held.specs.Page.{Kept, Ringed, Sound}
@@ -63,7 +62,7 @@ top c (cutting m d) = c
 pub record PageHeld (fs : ℕ) (h : Held) (E : ℕ) (cut : Bool) (C : List ℕ) (a : Bool) (w : Window) : Type 0 where
   pub kept : Kept fs h.files w.start (length w.content) w.content
   pub ringed : Ringed h w.start (length w.content) w.content
-  pub marks : (k e : ℕ) → (h.files k).mark ≡ some e → e < w.epoch → k < file_of fs w.start
+  pub marks : (k e : ℕ) → (h.files k).mark ≡ Some e → e < w.epoch → k < file_of fs w.start
   pub age : w.epoch ≤ E
   pub tall : length C < length w.content → (cut ≡ true) × (w.epoch < E) × (a ≡ false)
 
@@ -96,7 +95,7 @@ pub record Live (t : Told) (p : Phys) : Type 0 where
   pub known : t.listed ≡ true → p.base ≡ length t.content
   pub bare : t.listed ≡ false → length t.content ≡ 0
   pub bounded : t.start ≤ length t.content
-  pub below : (k e : ℕ) → (p.held.files k).mark ≡ some e → k < file_of t.size t.start
+  pub below : (k e : ℕ) → (p.held.files k).mark ≡ Some e → k < file_of t.size t.start
   pub committed : PageHeld t.size p.held t.epoch t.cut t.content (is_append t.writer) (now t)
   pub pages : (w : Window) → Memᴰ w t.windows → PageHeld t.size p.held t.epoch t.cut t.content (is_append t.writer) w
   pub staged : Staged t.size p.touched p.held t.content t.start t.writer

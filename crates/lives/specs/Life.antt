@@ -1,8 +1,7 @@
 -- The store as one tape sees it: the epoch, the open transactions with their views of this tape, what the writer has staged of it, and its cache and files.
 -- And what each call does to that, in document 01's words. Many tapes are many of these that share epoch and transactions. Refusals that one tape can't see
 -- (1, 5, 6, 7, 10, 15, 17) are not decided here. Assumes nothing.
-use Rattle.std.specs.Prelude.{Bool, true, false, cond, ◌&&◌, List, [], ◌∷◌, map, ℕ, ◌+◌, ◌-◌, min, max, length, eqb, ltb, leb}
-use Rattle.std.proofs.Math.Option.{Option, none, some}
+use Rattle.std.specs.Prelude.{Bool, true, false, cond, ◌&&◌, List, [], ◌∷◌, map, ℕ, ◌+◌, ◌-◌, min, max, length, eqb, ltb, leb, Option, Some, None}
 use Rattle.components.specs.Files.{no_files}
 use Rattle.components.specs.Epochs.{older, oldest_other}
 use Rattle.ring_buffer.specs.Ring.{fresh}
@@ -61,8 +60,8 @@ pub record After : Type 0 where
 -- ---- transactions
 
 unfoldable pub find : ℕ → List Reader → Option Reader
-find k [] = none
-find k (r ∷ rs) = cond (eqb k r.number) (some r) (find k rs)
+find k [] = None
+find k (r ∷ rs) = cond (eqb k r.number) (Some r) (find k rs)
 
 unfoldable pub without : ℕ → List Reader → List Reader
 without k [] = []
@@ -81,21 +80,21 @@ pub record View : Type 0 where
   pub len : ℕ
 
 abbrev pub view_r : Option Reader → Option View
-view_r none = none
-view_r (some r) = some (record { here = r.here; start = r.start; len = r.len })
+view_r None = None
+view_r (Some r) = Some (record { here = r.here; start = r.start; len = r.len })
 
 unfoldable pub view : ℕ → Bool → ℕ → Writer → List Reader → Option View
 view k li st idle rs = view_r (find k rs)
-view k li st (appending m b h l s) rs = cond (eqb k m) (some (record { here = h; start = s; len = l })) (view_r (find k rs))
-view k li st (cutting m l) rs = cond (eqb k m) (some (record { here = li; start = st; len = l })) (view_r (find k rs))
+view k li st (appending m b h l s) rs = cond (eqb k m) (Some (record { here = h; start = s; len = l })) (view_r (find k rs))
+view k li st (cutting m l) rs = cond (eqb k m) (Some (record { here = li; start = st; len = l })) (view_r (find k rs))
 
 abbrev pub fetched : Option (List ℕ) → Answer
-fetched none = Refused 16 0
-fetched (some l) = Bytes l
+fetched None = Refused 16 0
+fetched (Some l) = Bytes l
 
 abbrev pub read_in : ℕ → Held → ℕ → ℕ → Option View → Answer
-read_in fs h o n none = Refused 2 0
-read_in fs h o n (some b) = cond b.here (cond (leb b.start o && leb (o + n) b.len) (fetched (fetch fs h o n)) (Refused 12 0)) (Refused 11 0)
+read_in fs h o n None = Refused 2 0
+read_in fs h o n (Some b) = cond b.here (cond (leb b.start o && leb (o + n) b.len) (fetched (fetch fs h o n)) (Refused 12 0)) (Refused 11 0)
 
 -- ---- the calls
 
@@ -186,8 +185,8 @@ open_new s m b size capacity start memory =
 
 -- "Opening a known name tracks its files numbered up to that of len, then marks and removes those below start's file"; its cache is filled
 abbrev pub open_known : Store → (began len start capacity first : ℕ) → List ℕ → Writer → Option (List ℕ) → After
-open_known s began len start capacity first memory w none = refuse 16 0 s
-open_known s began len start capacity first memory w (some bs) =
+open_known s began len start capacity first memory w None = refuse 16 0 s
+open_known s began len start capacity first memory w (Some bs) =
     then (Done 1) s.last s s.readers w true true (filled capacity first memory bs (taken s.size began len start s.held.files))
 
 -- what a cache may be: 1 to 4,096 bytes, and memory for it
@@ -250,8 +249,8 @@ step_commit s k (cutting m l) =
     cond (eqb k m) (committed s true s.listed l (min s.start l) (cond s.touched (trimmed s.size l s.held) s.held)) (refuse 2 0 s)
 
 abbrev pub is_some : Option Reader → Bool
-is_some none = false
-is_some (some r) = true
+is_some None = false
+is_some (Some r) = true
 
 abbrev pub step_drop_reader : Store → ℕ → After
 step_drop_reader s k =

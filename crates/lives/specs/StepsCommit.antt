@@ -1,8 +1,7 @@
 -- A writer commits: what it staged is the tape, for all who come; whoever is still open keeps the page that it saw. Assumes nothing.
-use Rattle.std.specs.Prelude.{◌≡◌, refl, Bool, true, false, cond, ◌⊎◌, ℕ, ◌+◌, ◌≤◌, ◌<◌, min, eqb, length}
+use Rattle.std.specs.Prelude.{◌≡◌, refl, Bool, true, false, cond, ◌⊎◌, ℕ, ◌+◌, ◌≤◌, ◌<◌, min, eqb, length, Option, Some}
 use Rattle.std.proofs.Common.{sym, ap, ◌∙◌, inl, ⊎_elim, arith}
 use Rattle.std.proofs.lemmas.Bool.{false≢true}
-use Rattle.std.proofs.Math.Option.{Option, some}
 use mathlib.Core.List.{List, map, Memᴰ}
 use Rattle.octets.specs.Cases.{picked, order}
 use Rattle.components.specs.Pieces.{file_of}
@@ -32,7 +31,7 @@ module _ (t : Told) (p : Phys) where
   module _ (m : ℕ) (h : Bool) (c : List ℕ) (s : ℕ) where
     record Left (h' : Held) : Type 0 where
       sound : Sound h' (length c) (length c)
-      marks : (k x : ℕ) → (h'.files k).mark ≡ some x → ((p.held.files k).mark ≡ some x) ⊎ ((x ≡ t.epoch) × (k < file_of t.size s))
+      marks : (k x : ℕ) → (h'.files k).mark ≡ Some x → ((p.held.files k).mark ≡ Some x) ⊎ ((x ≡ t.epoch) × (k < file_of t.size s))
       ringed : (st n : ℕ) (d : List ℕ) → Ringed p.held st n d → Ringed h' st n d
       new : Kept t.size h'.files s (length c) c
       old : (w : Window) → Memᴰ w t.windows → Kept t.size h'.files w.start (length w.content) w.content
@@ -41,7 +40,7 @@ module _ (t : Told) (p : Phys) where
     published-live g h' l =
         let fs = t.size in
         let G = g.staged in
-        let below : (k x : ℕ) → (h'.files k).mark ≡ some x → k < file_of fs s =
+        let below : (k x : ℕ) → (h'.files k).mark ≡ Some x → k < file_of fs s =
         λ k x q. ⊎_elim (λ r. omega (arith, g.below k x r, file-mono fs g.pos t.start s G.later)) (λ r. r.1) (l.marks k x q) in
         record {
           pos = g.pos;
@@ -82,7 +81,7 @@ module _ (t : Told) (p : Phys) where
         let G = g.staged in
         let H = g.sound in
         let W = length c in
-        let before : (k x : ℕ) → (flush fs W p.held k).mark ≡ some x → (p.held.files k).mark ≡ some x =
+        let before : (k x : ℕ) → (flush fs W p.held k).mark ≡ Some x → (p.held.files k).mark ≡ Some x =
         λ k x q. flush-mark fs g.pos p.held W k q in
         record {
           sound = settled-sound fs p.held t.epoch oldest p.base W s H;
@@ -154,7 +153,7 @@ module _ (t : Told) (p : Phys) where
         tall = λ l. (refl, omega (arith, f.age), refl);
       } in
       let B = fine (now t) g.committed in
-      let below : (k x : ℕ) → (h'.files k).mark ≡ some x → k < file_of fs st =
+      let below : (k x : ℕ) → (h'.files k).mark ≡ Some x → k < file_of fs st =
       λ k x q.
       let (a, v) = tr.marks k x q in
       below-min fs k t.start (length c) (g.below k x a) (⊎_elim (λ r. r) (λ r. omega (arith, g.below k x a, file-mono fs g.pos t.start (length c) (omega (arith, g.bounded)))) v) in
@@ -172,7 +171,7 @@ module _ (t : Told) (p : Phys) where
         below = below;
         committed =
             record {
-              kept = λ o a b. B.kept o (omega arith) (omega (arith, G.shorter)) ∙ ap {B = Option ℕ} some (sym (G.same o b));
+              kept = λ o a b. B.kept o (omega arith) (omega (arith, G.shorter)) ∙ ap {B = Option ℕ} Some (sym (G.same o b));
               ringed = λ o a b l. B.ringed o (omega arith) (omega (arith, G.shorter)) l ∙ sym (G.same o b);
               marks = λ k x q _. below k x q;
               age = omega arith;

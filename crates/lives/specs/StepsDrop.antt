@@ -1,7 +1,6 @@
 -- A transaction is dropped: a reader's window goes; a writer takes back what it staged, and a tape that it made is gone. Assumes nothing.
-use Rattle.std.specs.Prelude.{◌≡◌, refl, Bool, true, false, cond, ℕ, ◌-◌, eqb}
+use Rattle.std.specs.Prelude.{◌≡◌, refl, Bool, true, false, cond, ℕ, ◌-◌, eqb, Some}
 use Rattle.std.proofs.Common.{sym, ap, ◌∙◌, true≢false, ⊎_elim, arith}
-use Rattle.std.proofs.Math.Option.{some}
 use mathlib.Core.List.Memᴰ
 use mathlib.Core.List.{List, [], ◌∷◌, map, Memᴰ}
 use Rattle.std.proofs.Math.ListN.{length}
@@ -56,7 +55,7 @@ module _ (t : Told) (p : Phys) where
     record Left (h' : Held) : Type 0 where
       sound : Sound h' (length t.content) (length t.content)
       fine : (w : Window) → PageHeld t.size p.held t.epoch t.cut t.content true w → PageHeld t.size h' t.epoch t.cut t.content false w
-      below : (k e : ℕ) → (h'.files k).mark ≡ some e → (p.held.files k).mark ≡ some e
+      below : (k e : ℕ) → (h'.files k).mark ≡ Some e → (p.held.files k).mark ≡ Some e
 
     drop-known : Live (with_writer t (appending m h c s) true) p → t.listed ≡ true → (h' : Held) → Left h' → Live (with_writer t idle true) (settled_as p (length t.content) h')
     drop-known g e h' l =

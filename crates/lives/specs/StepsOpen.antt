@@ -1,9 +1,9 @@
 -- A session ends, and a tape is opened: made new, or found on the disk as it was left. Assumes nothing.
-use Rattle.std.specs.Prelude.{◌≡◌, refl, Bool, true, false, cond, ◌&&◌, List, [], map, ℕ, ◌-◌, ◌≤◌, ◌<◌, max, eqb, ltb, leb, take, drop, replicate}
+use Rattle.std.proofs.lemmas.Option.{none-some}
+use Rattle.std.specs.Prelude.{◌≡◌, refl, Bool, true, false, cond, ◌&&◌, List, [], map, ℕ, ◌-◌, ◌≤◌, ◌<◌, max, eqb, ltb, leb, take, drop, replicate, Option, Some}
 use Rattle.std.proofs.Math.Path.{sym, ap}
 use Rattle.std.proofs.Common.{◌∙◌, subst, true≢false, arith, eqb-true, ltb-true, leb-true}
 use Rattle.std.proofs.lemmas.Bool.{false≢true}
-use Rattle.std.proofs.Math.Option.{Option, some, none-ne-some}
 use mathlib.Core.List.Memᴰ
 use Rattle.std.proofs.Math.ListN.{length, length-replicate}
 use Rattle.octets.specs.Cases.{picked, and_l, and_r}
@@ -100,12 +100,12 @@ module _ (t : Told) (p : Phys) where
         shown = λ q. absurd (true≢false q);
         bare = g.bare;
         bounded = g.bounded;
-        below = λ k x q. absurd (none-ne-some x q);
+        below = λ k x q. absurd (none-some x q);
         committed =
             record {
               kept = λ o a b. absurd (omega arith);
               ringed = λ o a b. absurd (omega arith);
-              marks = λ k x q. absurd (none-ne-some x q);
+              marks = λ k x q. absurd (none-some x q);
               age = omega arith;
               tall = λ l. absurd (omega arith);
             };
@@ -114,7 +114,7 @@ module _ (t : Told) (p : Phys) where
             record {
               kept = λ o a b. absurd (omega (arith, v.short));
               ringed = λ o a b. absurd (omega (arith, v.short));
-              marks = λ k x q. absurd (none-ne-some x q);
+              marks = λ k x q. absurd (none-some x q);
               age = v.age;
               tall = λ l. absurd (omega (arith, v.short));
             };
@@ -140,7 +140,7 @@ module _ (t : Told) (p : Phys) where
   abbrev known : ℕ → List ℕ → Held
   known c memory = filled c (first_in c) memory (last_bytes c) (taken t.size t.epoch (length t.content) t.start p.held.files)
 
-  loads : (m c : ℕ) → Dormant (resting m) p → load t.size p.held.files (first_in c) (length t.content - first_in c) ≡ some (last_bytes c)
+  loads : (m c : ℕ) → Dormant (resting m) p → load t.size p.held.files (first_in c) (length t.content - first_in c) ≡ Some (last_bytes c)
   loads m c g =
       let l = length t.content in
       load_kept t.size (file_of t.size l) p.held.files t.start t.content g.kept (l - first_in c) (first_in c) (omega arith) (omega (arith, g.bounded))
@@ -156,7 +156,7 @@ module _ (t : Told) (p : Phys) where
       let kept : Kept fs F t.start l t.content = taken-kept fs f.pos p.held.files t.epoch l t.start t.start l t.content g.kept (omega arith) in
       let ringed : Ringed (known c memory) t.start l t.content =
       fill-ringed c t.start (first_in c) memory t.content F (omega arith) (omega arith) (omega arith) f.one f.room in
-      let mark : (k x : ℕ) → (F k).mark ≡ some x → (x ≡ t.epoch) × (k < file_of fs t.start) =
+      let mark : (k x : ℕ) → (F k).mark ≡ Some x → (x ≡ t.epoch) × (k < file_of fs t.start) =
       λ k x q. taken-mark fs p.held.files t.epoch l t.start k q in
       record {
         pos = f.pos;
@@ -172,7 +172,7 @@ module _ (t : Told) (p : Phys) where
         pages = λ w i.
             let v = g.pages w i in
             record {
-              kept = λ o a b. let (x, q) = v.part o a b in kept o x (omega (arith, v.short)) ∙ ap {B = Option ℕ} some (sym q);
+              kept = λ o a b. let (x, q) = v.part o a b in kept o x (omega (arith, v.short)) ∙ ap {B = Option ℕ} Some (sym q);
               ringed = λ o a b l. let (x, q) = v.part o a b in ringed o x (omega (arith, v.short)) l ∙ sym q;
               marks = λ k x q l. absurd (omega (arith, (mark k x q).0, v.age));
               age = v.age;

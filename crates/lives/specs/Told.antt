@@ -1,7 +1,6 @@
 -- What the calls' arguments and answers say that everybody must see of one tape: what is committed, the open windows with what they saw when they began, and
 -- what the writer has staged. Not one field is read off a store. Assumes nothing.
-use Rattle.std.specs.Prelude.{Bool, true, false, cond, ◌&&◌, List, [], ◌∷◌, ◌++◌, ℕ, ◌+◌, min, max, length, take, replicate, eqb, ltb}
-use Rattle.std.proofs.Math.Option.{Option, none, some}
+use Rattle.std.specs.Prelude.{Bool, true, false, cond, ◌&&◌, List, [], ◌∷◌, ◌++◌, ℕ, ◌+◌, min, max, length, take, replicate, eqb, ltb, Option, Some, None}
 use Rattle.lives.specs.Life.{Answer, Done, Bytes, Refused, TapeCall, restart, reader, append, truncate, open', put, shift, cut, read, commit, drop'}
 
 -- a page: here or absent (then empty); its bytes from offset 0 to its length, of which those from start on may be read. Below the start of a tape that was
@@ -119,14 +118,14 @@ abbrev pub page_w : Window → Page
 page_w w = record { here = w.here; start = w.start; content = w.content }
 
 unfoldable pub page_in : ℕ → List Window → Option Page
-page_in k [] = none
-page_in k (w ∷ ws) = cond (eqb k w.number) (some (page_w w)) (page_in k ws)
+page_in k [] = None
+page_in k (w ∷ ws) = cond (eqb k w.number) (Some (page_w w)) (page_in k ws)
 
 -- a truncate's view has the staged length and the old start; the smaller is taken at its commit
 abbrev pub page_of : ℕ → Told → Staging → Option Page
 page_of k t idle = page_in k t.windows
-page_of k t (appending m h c s) = cond (eqb k m) (some (record { here = h; start = s; content = c })) (page_in k t.windows)
-page_of k t (cutting m c) = cond (eqb k m) (some (record { here = t.listed; start = t.start; content = c })) (page_in k t.windows)
+page_of k t (appending m h c s) = cond (eqb k m) (Some (record { here = h; start = s; content = c })) (page_in k t.windows)
+page_of k t (cutting m c) = cond (eqb k m) (Some (record { here = t.listed; start = t.start; content = c })) (page_in k t.windows)
 
 abbrev pub page : ℕ → Told → Option Page
 page k t = page_of k t t.writer

@@ -1,7 +1,7 @@
 -- Proofs by cases: a choice by a test, a conjunction, two numbers compared. Assumes nothing.
-use Rattle.std.specs.Prelude.{◌≡◌, refl, Bool, true, false, cond, ◌&&◌, ℕ, ◌+◌, ◌/◌, ◌%◌, ◌≤◌, ◌<◌, leb}
+use Rattle.std.specs.Prelude.{◌≡◌, refl, Bool, true, false, cond, ◌&&◌, ℕ, ◌+◌, ◌/◌, ◌%◌, ◌≤◌, ◌<◌, leb, Some, unwrap_or}
 use Rattle.std.proofs.Math.Bool.{and-eq-true_iff}
-use Rattle.std.proofs.Common.{div-add-mod', mul-le-mul_right, arith, le-leb}
+use Rattle.std.proofs.Common.{ap, div-add-mod', mul-le-mul_right, arith, le-leb}
 use Rattle.std.proofs.Math.Decide.{dec_lt}
 use Rattle.std.proofs.lemmas.Bool.{lt-leb}
 
@@ -47,3 +47,7 @@ mod-apart c a b l u e =
     order (a / c) (b / c)
     (λ h. omega (arith, div-add-mod' a c, div-add-mod' b c, mul-le-mul_right c h))
     (λ h. omega (arith, div-add-mod' a c, div-add-mod' b c, mul-le-mul_right c h))
+
+-- an option's value is its own
+pub some-injective : {A : Type 0} (a b : A) → Some a ≡ Some b → a ≡ b
+some-injective a b e = ap (λ o. unwrap_or o a) e

@@ -1,11 +1,10 @@
 -- The first of a run of places at which a test holds, a test that holds at each of them, and how many there are at which it holds. The laws are over
 -- the test, so that a search, a rule over a table and a count are each one line. Assumes nothing.
-use Rattle.std.specs.Prelude.{◌≡◌, refl, ◌≢◌, Bool, true, false, cond, ◌&&◌}
+use Rattle.std.specs.Prelude.{◌≡◌, refl, ◌≢◌, Bool, true, false, cond, ◌&&◌, Option, Some, None}
 use Rattle.std.proofs.Common.{ap, ◌∙◌, ⊎_elim, eq-or-lt_of_le, zero-add, add-zero}
 use Prim.Native.Nat.{ℕ, zero, suc, ◌+◌, ◌-◌, ◌≤◌, ◌<◌}
 use native.Mathlib.Omega.{arith}
 use Rattle.octets.specs.Cases.{decide, equal}
-use Rattle.std.specs.Prelude.{Option, Some, None}
 
 -- of the k places from i on
 unfoldable pub first : (ℕ → Bool) → ℕ → ℕ → Option ℕ

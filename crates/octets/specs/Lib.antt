@@ -6,3 +6,4 @@ pub mod First
 pub mod Words
 pub mod Only
 pub mod Sweep
+pub mod Tests

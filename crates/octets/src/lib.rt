@@ -7,10 +7,14 @@
 // comparisons. Proved, and nothing is assumed. The callers keep each place inside its slice.
 #![tactic(auto)]
 
+mod searches;
+
 ghost use Rattle.std.specs.Prelude.{◌≡◌, ◌+◌, ◌-◌, ◌≤◌, ◌<◌, min, max, length, replicate};
 ghost use Rattle.octets.specs.Bytes.{put};
 ghost use Rattle.octets.specs.Number.{num_at, put_num};
 ghost use Rattle.octets.specs.Compare.{same_bytes, comes_before};
+
+pub use searches::{all, count, first};
 
 // The number in the eight bytes of s from at on.
 pub fn u64_at(s: &[u8], at: usize) -> u64

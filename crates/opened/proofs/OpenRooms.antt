@@ -1,12 +1,10 @@
 -- The rule of 15 behind a served open: nothing is staged of its tape yet, no file is made, and the files of every other tape stay, so what had room in the
 -- slots still has. Assumes nothing.
-use Rattle.std.specs.Prelude.{◌≡◌, refl, ◌≢◌, true, false, List, ℕ, ◌≤◌, ◌<◌, ◌^◌}
+use Rattle.std.specs.Prelude.{◌≡◌, refl, ◌≢◌, true, false, List, ℕ, ◌≤◌, ◌<◌, ◌^◌, Option, Some, None}
 use Rattle.std.proofs.Common.{arith}
 use Rattle.std.proofs.Math.Dec.{eqb}
 use Rattle.octets.specs.Cases.{decide, equal}
 use Rattle.octets.specs.Number.{Bytes}
-use Rattle.octets.specs.declared.Found.{Found}
-use Rattle.octets.specs.declared.Found.TheVariants.{At, Nothing}
 use Rattle.answers.specs.Answers.{code_of}
 use Rattle.components.specs.Pieces.{file_of}
 use Rattle.components.specs.Slots.{covered}
@@ -55,12 +53,12 @@ module _ (d s : List ℕ) (t : ℕ) (wanted : List ℕ) (entry fs cache start : 
     in-same : handle_number s q ≢ 0 → (size from to : ℕ) → lacking_in e size from to (directory_of d s q) ≡ lacking_in d size from to (directory_of d s q)
     in-same held size from to = by (directory_of d s q) refl
       where
-        by : (f : Found) → directory_of d s q ≡ f → lacking_in e size from to f ≡ lacking_in d size from to f
-        by (At place) there =
+        by : (f : Option ℕ) → directory_of d s q ≡ f → lacking_in e size from to f ≡ lacking_in d size from to f
+        by (Some place) there =
             let other = name-other d s t wanted entry fs cache start e u orderly sv q low apart held in
             lacking-same (on_disk d place) (on_disk e place) (file_of size from) (covered size from to)
             (λ j a b. sv.readied.changed.there place (sv.readied.apart (name s names_at q) other.0 other.1 place there) j)
-        by Nothing there = refl
+        by None there = refl
 
     other-lacking : lacking_of e u 8 0 q ≡ lacking_of d s 8 0 q
     unfolding lacking_of

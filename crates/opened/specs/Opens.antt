@@ -1,11 +1,9 @@
 -- What a served open does to what is seen: of its tape what `lives` says, of every other tape nothing; its tape has the next handle's number, and the areas
 -- stay in order. Assumes nothing.
-use Rattle.std.specs.Prelude.{◌≡◌, ◌≢◌, true, List, [], ℕ, ◌+◌, ◌<◌, ◌^◌, length}
+use Rattle.std.specs.Prelude.{◌≡◌, ◌≢◌, true, List, [], ℕ, ◌+◌, ◌<◌, ◌^◌, length, Option, Some, None}
 use Rattle.std.proofs.Common.{sym, subst, ◌∙◌, arith}
 use Rattle.std.proofs.Math.Path.{ap}
 use Rattle.octets.specs.Number.{Bytes}
-use Rattle.octets.specs.declared.Found.{Found}
-use Rattle.octets.specs.declared.Found.TheVariants.{At, Nothing}
 use Rattle.answers.specs.Answers.{code_of}
 use Rattle.answers.specs.declared.Answer.TheVariants as A
 use Rattle.metadata.specs.declared.choice.Side.{Side}
@@ -39,9 +37,9 @@ use Rattle.opened.specs.OpensOrder.{orderly-open}
 use Rattle.opened.specs.OpensSeen.{step_opened, open-goes, own-seen, own-handled}
 
 -- the memory of the cache that a tape gets: that of its place, else of the first free one
-abbrev pub memory_at : List ℕ → Found → List ℕ
-memory_at s (At p) = ring_bytes s p
-memory_at s Nothing = []
+abbrev pub memory_at : List ℕ → Option ℕ → List ℕ
+memory_at s (Some p) = ring_bytes s p
+memory_at s None = []
 
 abbrev pub open_memory : List ℕ → List ℕ → List ℕ
 open_memory s wanted = memory_at s (place_for s (place_of s wanted))
@@ -142,7 +140,7 @@ module _ (d s : List ℕ) (t : ℕ) (wanted : List ℕ) (entry fs cache start : 
     module _ (reopened : st.listed ≡ true → fs ≡ st.size) where
       steps : step (open' t fs cache start (open_memory s wanted)) st ≡ step_opened d s t wanted entry fs cache start after_disk after_session orderly sv st seen
       steps =
-          ap (λ (f : Found). step (open' t fs cache start (memory_at s f)) st) sv.opens.place
+          ap (λ (f : Option ℕ). step (open' t fs cache start (memory_at s f)) st) sv.opens.place
           ∙ open-goes d s t wanted entry fs cache start after_disk after_session orderly sv st seen (λ known. reopened (sym open-listed ∙ known))
 
       pub open-seen : Seen after_disk after_session wanted (step (open' t fs cache start (open_memory s wanted)) st).store
@@ -150,5 +148,5 @@ module _ (d s : List ℕ) (t : ℕ) (wanted : List ℕ) (entry fs cache start : 
           subst (λ (a : After). Seen after_disk after_session wanted a.store) (sym steps)
           (own-seen d s t wanted entry fs cache start after_disk after_session orderly sv st seen)
 
-      pub open-steps : (step (open' t fs cache start (open_memory s wanted)) st).answer ≡ Done 1
+      pub open-steps : (step (open' t fs cache start (open_memory s wanted)) st).answer ≡ Ok 1
       open-steps = ap (λ (a : After). a.answer) steps

@@ -1,6 +1,6 @@
 -- What an open leaves of the disk's directories: its tape has one, with the files that it should have, and every other directory stands as before under its
 -- name. Assumes nothing.
-use Rattle.std.specs.Prelude.{◌≡◌, refl, ◌≢◌, Bool, true, false, cond, ◌&&◌, ℕ, ◌≤◌, ◌<◌, ◌^◌, length}
+use Rattle.std.specs.Prelude.{◌≡◌, refl, ◌≢◌, Bool, true, false, cond, ◌&&◌, ℕ, ◌≤◌, ◌<◌, ◌^◌, length, Option, Some, None}
 use Rattle.std.proofs.Math.Path.{sym, ap}
 use Rattle.std.proofs.Common.{subst, ◌∙◌, arith}
 use Rattle.std.proofs.Math.Bool.{true≢false}
@@ -8,8 +8,6 @@ use mathlib.Core.List.{List, []}
 use Rattle.std.proofs.Math.Dec.{leb}
 use Rattle.octets.specs.Cases.{decide, equal, picked}
 use Rattle.octets.specs.Words.{table-in}
-use Rattle.octets.specs.declared.Found.{Found}
-use Rattle.octets.specs.declared.Found.TheVariants.{At, Nothing}
 use Rattle.components.specs.Files.{Files, no_files}
 use Rattle.held.specs.Held.{taken}
 use Rattle.layout.specs.Names.{name, find_name, put_name}
@@ -40,10 +38,10 @@ EachOnce d = (i j : ℕ) → i < 8 → j < 8 → 0 < length (name d directories 
 
 pub record Readied (a b : Areas) (wanted : List ℕ) (o : Opening) (began : ℕ) : Type 0 where
   pub place : ℕ
-  pub found : find_name b.disk directories wanted ≡ At place
+  pub found : find_name b.disk directories wanted ≡ Some place
   pub changed : Changed a b place (opened_files o began (files_for a.disk a.session wanted))
   pub names : (n : List ℕ) → n ≢ wanted → 0 < length n → find_name b.disk directories n ≡ find_name a.disk directories n
-  pub apart : (n : List ℕ) → n ≢ wanted → 0 < length n → (q : ℕ) → find_name a.disk directories n ≡ At q → q ≢ place
+  pub apart : (n : List ℕ) → n ≢ wanted → 0 < length n → (q : ℕ) → find_name a.disk directories n ≡ Some q → q ≢ place
   pub unique : EachOnce a.disk → EachOnce b.disk
 
 -- the files of every other name
@@ -52,9 +50,9 @@ pub readied-other : (a b : Areas) (wanted : List ℕ) (o : Opening) (began : ℕ
 readied-other a b wanted o began r n differs some =
     ap (files_in b.disk b.session) (r.names n differs some) ∙ by (find_name a.disk directories n) refl
   where
-    by : (f : Found) → find_name a.disk directories n ≡ f → files_in b.disk b.session f ≡ files_in a.disk a.session f
-    by (At q) e = r.changed.other q (r.apart n differs some q e)
-    by Nothing e = refl
+    by : (f : Option ℕ) → find_name a.disk directories n ≡ f → files_in b.disk b.session f ≡ files_in a.disk a.session f
+    by (Some q) e = r.changed.other q (r.apart n differs some q e)
+    by None e = refl
 
 -- ---- the directories' names, one by one
 
@@ -63,7 +61,7 @@ once-same d e same each i j low high some equals =
     each i j low high (rw (same i low) at some) (sym (same i low) ∙ equals ∙ same j high)
 
 -- one name more, which stood nowhere
-once_more : (d e wanted : List ℕ) (place : ℕ) → find_name d directories wanted ≡ Nothing → name e directories place ≡ wanted
+once_more : (d e wanted : List ℕ) (place : ℕ) → find_name d directories wanted ≡ None → name e directories place ≡ wanted
     → ((i : ℕ) → i < 8 → i ≢ place → name e directories i ≡ name d directories i) → EachOnce d → EachOnce e
 once_more d e wanted place none here same each i j low high some equals =
     equal i place
@@ -90,20 +88,20 @@ module _ (a : Areas) (place : ℕ) (sound : Sound a.disk) where
       ∙ ap (λ (m : Disk). m.directory i) (disk-empty_directory a.disk sound place)
       ∙ table-in 8 [] (name a.disk directories) i low
 
-module _ (a : Areas) (wanted : List ℕ) (place : ℕ) (whole : Whole a) (free : find_name a.disk directories [] ≡ At place) (small : length wanted ≤ 24) where
+module _ (a : Areas) (wanted : List ℕ) (place : ℕ) (whole : Whole a) (free : find_name a.disk directories [] ≡ Some place) (small : length wanted ≤ 24) where
   abbrev bare : List ℕ
   bare = (emptied a place).disk
 
-  added_is : (added a wanted (At place)).disk ≡ put_name bare directories place wanted
+  added_is : (added a wanted (Some place)).disk ≡ put_name bare directories place wanted
   unfolding add_directory
-  added_is = ap (λ (f : Found). (add_at bare wanted f).area) (names-emptied a place whole.sound [] ∙ free)
+  added_is = ap (λ (f : Option ℕ). (add_at bare wanted f).area) (names-emptied a place whole.sound [] ∙ free)
 
-  name-made : name (added a wanted (At place)).disk directories place ≡ wanted
+  name-made : name (added a wanted (Some place)).disk directories place ≡ wanted
   name-made =
       ap (λ (e : List ℕ). name e directories place) added_is
       ∙ name-put_name bare directories place wanted (whole-emptied a place whole).sound.names.room (name-low a.disk directories [] place free) small
 
-  name-beside : (i : ℕ) → i < 8 → i ≢ place → name (added a wanted (At place)).disk directories i ≡ name a.disk directories i
+  name-beside : (i : ℕ) → i < 8 → i ≢ place → name (added a wanted (Some place)).disk directories i ≡ name a.disk directories i
   name-beside i low apart =
       ap (λ (e : List ℕ). name e directories i) added_is
       ∙ name-only _ _ bare _ directories (only-put_name bare directories place wanted small) i (λ l. omega arith) ((whole-emptied a place whole).sound.names.short i low)
@@ -128,8 +126,8 @@ module _ (a : Areas) (wanted : List ℕ) (o : Opening) (began : ℕ) (whole : Wh
   new-files new = ap (λ (b : Bool). cond b (kept now) no_files) new
 
   -- its directory is there
-  module _ (place : ℕ) (there : find_name d directories wanted ≡ At place) where
-    other-there : (n : List ℕ) → n ≢ wanted → 0 < length n → (q : ℕ) → find_name d directories n ≡ At q → q ≢ place
+  module _ (place : ℕ) (there : find_name d directories wanted ≡ Some place) where
+    other-there : (n : List ℕ) → n ≢ wanted → 0 < length n → (q : ℕ) → find_name d directories n ≡ Some q → q ≢ place
     other-there n differs some q e same =
         differs (sym (found_name d directories n q e) ∙ ap (name d directories) same ∙ found_name d directories wanted place there)
 
@@ -139,7 +137,7 @@ module _ (a : Areas) (wanted : List ℕ) (o : Opening) (began : ℕ) (whole : Wh
           place = place;
           found = names-taken a place o began whole fits wanted ∙ there;
           changed =
-              subst (Changed a (taken_files a place o began) place) (sym (known-files known ∙ ap (λ (f : Found). kept (files_in d a.session f)) there))
+              subst (Changed a (taken_files a place o began) place) (sym (known-files known ∙ ap (λ (f : Option ℕ). kept (files_in d a.session f)) there))
               (changed-taken a place o began whole fits once);
           names = λ n differs some. names-taken a place o began whole fits n;
           apart = other-there;
@@ -158,13 +156,13 @@ module _ (a : Areas) (wanted : List ℕ) (o : Opening) (began : ℕ) (whole : Wh
         }
 
   -- it is made, in a free place
-  readied-made : (place : ℕ) → find_name d directories wanted ≡ Nothing → find_name d directories [] ≡ At place → length wanted ≤ 24 → o.listed ≡ false
-      → Readied a (added a wanted (At place)) wanted o began
+  readied-made : (place : ℕ) → find_name d directories wanted ≡ None → find_name d directories [] ≡ Some place → length wanted ≤ 24 → o.listed ≡ false
+      → Readied a (added a wanted (Some place)) wanted o began
   readied-made place none free small new =
       record {
         place = place;
         found = found-added a wanted place whole free small none;
-        changed = subst (Changed a (added a wanted (At place)) place) (sym (new-files new)) (changed-added a wanted place whole free small once);
+        changed = subst (Changed a (added a wanted (Some place)) place) (sym (new-files new)) (changed-added a wanted place whole free small once);
         names = λ n differs some. others-added a wanted place whole free small n differs some;
         apart = λ n differs some q e same.
             omega (arith, ap length (sym (found_name d directories n q e) ∙ ap (name d directories) same ∙ found_name d directories [] place free));
@@ -174,7 +172,7 @@ module _ (a : Areas) (wanted : List ℕ) (o : Opening) (began : ℕ) (whole : Wh
   -- ---- as a served call has found them
 
   -- a new name is no ninth one, so a place is free for its directory
-  room-left : (s : List ℕ) → o.listed ≡ false → is_ninth d s o.listed Nothing ≡ false → find_name d directories [] ≢ Nothing
+  room-left : (s : List ℕ) → o.listed ≡ false → is_ninth d s o.listed None ≡ false → find_name d directories [] ≢ None
   unfolding is_ninth
   room-left s new few none =
       decide (leb 8 (names_used d s))
@@ -185,13 +183,13 @@ module _ (a : Areas) (wanted : List ℕ) (o : Opening) (began : ℕ) (whole : Wh
       → (o.listed && is_nothing (find_name d directories wanted)) ≡ false → Readied a (readied a wanted o began (find_name d directories wanted)) wanted o began
   readied-all s small = by (find_name d directories wanted) refl
     where
-      free : (f : Found) → find_name d directories [] ≡ f → find_name d directories wanted ≡ Nothing → o.listed ≡ false → f ≢ Nothing → Readied a (added a wanted f) wanted o began
-      free (At place) e none new some = readied-made place none e small new
-      free Nothing e none new some = absurd (some refl)
+      free : (f : Option ℕ) → find_name d directories [] ≡ f → find_name d directories wanted ≡ None → o.listed ≡ false → f ≢ None → Readied a (added a wanted f) wanted o began
+      free (Some place) e none new some = readied-made place none e small new
+      free None e none new some = absurd (some refl)
 
-      by : (f : Found) → find_name d directories wanted ≡ f → is_ninth d s o.listed f ≡ false → (o.listed && is_nothing f) ≡ false → Readied a (readied a wanted o began f) wanted o began
-      by (At place) e few there =
+      by : (f : Option ℕ) → find_name d directories wanted ≡ f → is_ninth d s o.listed f ≡ false → (o.listed && is_nothing f) ≡ false → Readied a (readied a wanted o began f) wanted o began
+      by (Some place) e few there =
           picked (λ (b : Areas). Readied a b wanted o began) o.listed (taken_files a place o began) (emptied a place) (readied-known place e) (readied-empty place e)
-      by Nothing e few there =
+      by None e few there =
           let new : o.listed ≡ false = decide o.listed (λ (t : o.listed ≡ true). absurd (true≢false (rw t at there))) (λ f. f) in
           free (find_name d directories []) refl e new (λ none. room-left s new few none)

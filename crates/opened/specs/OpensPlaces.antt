@@ -1,5 +1,5 @@
 -- Where the names stand after an open, and what the lists of the session's transactions then say of its tape: what they said before. Assumes nothing.
-use Rattle.std.specs.Prelude.{◌≡◌, refl, ◌≢◌, Bool, true, false, ◌&&◌, ℕ, ◌<◌, length}
+use Rattle.std.specs.Prelude.{◌≡◌, refl, ◌≢◌, Bool, true, false, ◌&&◌, ℕ, ◌<◌, length, Option, Some, None}
 use Rattle.std.proofs.Math.Path.{sym, ap}
 use Rattle.std.proofs.Common.{◌∙◌, true≢false}
 use mathlib.Core.List.{List, []}
@@ -7,8 +7,6 @@ use native.Mathlib.Omega.{arith}
 use Rattle.octets.specs.Cases.{decide, equal}
 use Rattle.octets.specs.Compare.{same_bytes, same_true}
 use Rattle.octets.specs.First.{first-same, count_same}
-use Rattle.octets.specs.declared.Found.{Found}
-use Rattle.octets.specs.declared.Found.TheVariants.{At, Nothing}
 use Rattle.layout.specs.Names.{name, find_name}
 use Rattle.layout.specs.NamesLaws.{name-low}
 use Rattle.layout.specs.Session.{names_at}
@@ -26,27 +24,27 @@ use Rattle.seen.specs.Shown.{shown-keeps, shown-none}
 use Rattle.opened.specs.OpensRows.{Rows}
 
 -- the place that a tape gets: its own, or a free one
-pub place-either : {P : Type 0} (s wanted : List ℕ) (p : ℕ) → place_for s (place_of s wanted) ≡ At p → (place_of s wanted ≡ At p → P)
-    → (place_of s wanted ≡ Nothing → find_name s names_at [] ≡ At p → P) → P
+pub place-either : {P : Type 0} (s wanted : List ℕ) (p : ℕ) → place_for s (place_of s wanted) ≡ Some p → (place_of s wanted ≡ Some p → P)
+    → (place_of s wanted ≡ None → find_name s names_at [] ≡ Some p → P) → P
 place-either {P} s wanted p place own free = by (place_of s wanted) refl place
   where
-    by : (tape : Found) → place_of s wanted ≡ tape → place_for s tape ≡ At p → P
-    by (At q) e f = own (e ∙ f)
-    by Nothing e f = free e f
+    by : (tape : Option ℕ) → place_of s wanted ≡ tape → place_for s tape ≡ Some p → P
+    by (Some q) e f = own (e ∙ f)
+    by None e f = free e f
 
 -- an append began with a tape listed just if it is listed
 pub listed_then : (d s n : List ℕ) → Orderly d s → is_open_at s 16 ≡ true → (view_found s (place_of s n)).listed ≡ (view_in s 17 (place_of s n)).listed
 listed_then d s n orderly writer = by (place_of s n) refl
   where
-    by : (f : Found) → place_of s n ≡ f → (view_found s f).listed ≡ (view_in s 17 f).listed
-    by (At q) at = ap (λ (x : View). x.listed) (orderly.writer-view writer q (name-low s names_at n q at)) ∙ sym (shown-keeps (view_of s 17 q))
-    by Nothing at = refl
+    by : (f : Option ℕ) → place_of s n ≡ f → (view_found s f).listed ≡ (view_in s 17 f).listed
+    by (Some q) at = ap (λ (x : View). x.listed) (orderly.writer-view writer q (name-low s names_at n q at)) ∙ sym (shown-keeps (view_of s 17 q))
+    by None at = refl
 
 differ : (a b : List ℕ) → a ≢ b → same_bytes a b ≡ false
 differ a b d = decide (same_bytes a b) (λ e. absurd (d (same_true a b e))) (λ e. e)
 
 module _ (d s u : List ℕ) (p : ℕ) (wanted : List ℕ) (o : Opening) (bs : List ℕ) (orderly : Orderly d s) (low : p < 8) (some : 0 < length wanted)
-    (place : place_for s (place_of s wanted) ≡ At p) (rows : Rows s u p wanted o bs) where
+    (place : place_for s (place_of s wanted) ≡ Some p) (rows : Rows s u p wanted o bs) where
   -- no other place has its name
   pub only_here : (q : ℕ) → q < 8 → name s names_at q ≡ wanted → q ≡ p
   only_here q l e =
@@ -63,7 +61,7 @@ module _ (d s u : List ℕ) (p : ℕ) (wanted : List ℕ) (o : Opening) (bs : Li
       (λ found. apart (sym e ∙ found_name s names_at wanted p found))
       (λ missing free. omega (arith, ap length (sym e ∙ found_name s names_at [] p free)))
 
-  pub own-place : place_of u wanted ≡ At p
+  pub own-place : place_of u wanted ≡ Some p
   own-place =
       found_at u names_at wanted p low rows.own_name
       (λ q l e. equal q p (λ same. same) (λ apart. only_here q l (sym (rows.names q l apart) ∙ e)))
@@ -82,25 +80,25 @@ module _ (d s u : List ℕ) (p : ℕ) (wanted : List ℕ) (o : Opening) (bs : Li
       (λ (c : i ≢ p). ap (λ (m : List ℕ). same_bytes m n) (rows.names i b c)))
 
   -- the place of another name is another
-  pub apart-place : (n : List ℕ) → n ≢ wanted → 0 < length n → (q : ℕ) → place_of s n ≡ At q → q ≢ p
+  pub apart-place : (n : List ℕ) → n ≢ wanted → 0 < length n → (q : ℕ) → place_of s n ≡ Some q → q ≢ p
   apart-place n apart more q found e = was-here n apart more (ap (name s names_at) (sym e) ∙ found_name s names_at n q found)
 
   -- ---- what the lists say of it
 
   -- a place that was free was in no list that counts
-  free-length : find_name s names_at [] ≡ At p → length (name s names_at p) ≡ 0
+  free-length : find_name s names_at [] ≡ Some p → length (name s names_at p) ≡ 0
   free-length free = ap length (found_name s names_at [] p free)
 
-  free-list : find_name s names_at [] ≡ At p → (view_of s 17 p).listed ≡ false
+  free-list : find_name s names_at [] ≡ Some p → (view_of s 17 p).listed ≡ false
   free-list free = orderly.free-unlisted p low (free-length free)
 
-  free-reader : find_name s names_at [] ≡ At p → (t : ℕ) → t < 16 → is_open_at s t ≡ true → (view_of s t p).listed ≡ false
+  free-reader : find_name s names_at [] ≡ Some p → (t : ℕ) → t < 16 → is_open_at s t ≡ true → (view_of s t p).listed ≡ false
   free-reader free t l is =
       decide (view_of s t p).listed
       (λ e. absurd (true≢false (sym (orderly.views t l is p low e) ∙ free-list free)))
       (λ e. e)
 
-  own_view : (w : ℕ) → w < 18 → (find_name s names_at [] ≡ At p → (view_of s w p).listed ≡ false) → view_in u w (place_of u wanted) ≡ view_in s w (place_of s wanted)
+  own_view : (w : ℕ) → w < 18 → (find_name s names_at [] ≡ Some p → (view_of s w p).listed ≡ false) → view_in u w (place_of u wanted) ≡ view_in s w (place_of s wanted)
   own_view w l unlisted =
       ap (view_in u w) own-place
       ∙ ap shown (rows.views w p l low)

@@ -1,6 +1,6 @@
 -- What a served open has found, and the rows of the session that it leaves: its tape's name, handle, ring, cache and staged record, the head with the next
 -- handle's number, and everything else as before. Assumes nothing.
-use Rattle.std.specs.Prelude.{◌≡◌, refl, ◌≢◌, true, List, ℕ, ◌+◌, ◌*◌, ◌<◌, ◌^◌, length}
+use Rattle.std.specs.Prelude.{◌≡◌, refl, ◌≢◌, true, List, ℕ, ◌+◌, ◌*◌, ◌<◌, ◌^◌, length, Option, Some, None}
 use Rattle.std.proofs.Common.{sym, ◌∙◌}
 use Rattle.std.proofs.Math.Path.{ap}
 use native.Mathlib.Omega.{arith}
@@ -8,8 +8,6 @@ use Rattle.octets.specs.Bytes.{put}
 use Rattle.octets.specs.Cases.{picked}
 use Rattle.octets.specs.Number.{Bytes, num_at-lt}
 use Rattle.octets.specs.Only.{OnlyIn}
-use Rattle.octets.specs.declared.Found.{Found}
-use Rattle.octets.specs.declared.Found.TheVariants.{At, Nothing}
 use Rattle.answers.specs.Answers.{code_of}
 use Rattle.answers.specs.Outcome.{Outcome}
 use Rattle.layout.specs.Disk.{directories}
@@ -84,9 +82,9 @@ view-fits : (s : List ℕ) → Bytes s → (w p : ℕ) → ((view_of s w p).len 
 unfolding view_of
 view-fits s bytes w p = (num_at-lt 8 s (view_at w p + 8) bytes, num_at-lt 8 s (view_at w p + 16) bytes)
 
-found-fits : (s : List ℕ) → Bytes s → (tape : Found) → ((view_found s tape).len < 2 ^ 64) × ((view_found s tape).start < 2 ^ 64)
-found-fits s bytes (At p) = view-fits s bytes 16 p
-found-fits s bytes Nothing = (omega arith, omega arith)
+found-fits : (s : List ℕ) → Bytes s → (tape : Option ℕ) → ((view_found s tape).len < 2 ^ 64) × ((view_found s tape).start < 2 ^ 64)
+found-fits s bytes (Some p) = view-fits s bytes 16 p
+found-fits s bytes None = (omega arith, omega arith)
 
 module _ (d s : List ℕ) (t : ℕ) (wanted : List ℕ) (entry fs cache start : ℕ) where
   abbrev o : Opening
@@ -111,7 +109,7 @@ module _ (d s : List ℕ) (t : ℕ) (wanted : List ℕ) (entry fs cache start : 
     abbrev bs : List ℕ
     bs = cached_bytes d wanted o
 
-    abbrev directory : Found
+    abbrev directory : Option ℕ
     directory = find_name d directories wanted
 
     abbrev began : ℕ
@@ -172,7 +170,7 @@ module _ (d s : List ℕ) (t : ℕ) (wanted : List ℕ) (entry fs cache start : 
         let leaves = open-leaves-session d s t wanted entry fs cache start in
         let long = (open-touches-session d s t wanted entry fs cache start).long in
         let here = w.opens.place in
-        let apart : (q : ℕ) → q ≢ p → place_for s (place_of s wanted) ≢ At q = λ q d z. d (let same : q ≡ p = cc in same) in
+        let apart : (q : ℕ) → q ≢ p → place_for s (place_of s wanted) ≢ Some q = λ q d z. d (let same : q ≡ p = cc in same) in
         let short = (usable-begun d s w.both).names.short in
         let handed : next_handle x ≡ next_handle s = ap (λ (h : Head). h.last_handle + 1) head-x in
         record {

@@ -1,16 +1,13 @@
 -- What is seen of a tape that is opened: what the store of `lives` has after its open. Assumes nothing.
-use Rattle.std.specs.Prelude.{◌≡◌, Bool, true, ◌&&◌, List, ltb, length}
+use Rattle.std.specs.Prelude.{◌≡◌, Bool, true, ◌&&◌, List, ltb, length, Option, Some, None}
 use Rattle.std.proofs.Math.Path.{refl, sym, ap, subst}
 use Rattle.std.proofs.Common.{◌∙◌, true≢false}
 use Rattle.std.proofs.Math.Bool.{false, cond}
-use Rattle.std.proofs.Math.Option.{some}
 use Prim.Native.Nat.{ℕ, ◌-◌, max}
 use native.Mathlib.Omega.{arith}
 use borrow.Author.Tests.{eq-eqb, ne_eqb, eqb-true, le-leb, lt-ltb}
 use Rattle.std.proofs.Math.Dec.{eqb}
 use Rattle.octets.specs.Cases.{decide}
-use Rattle.octets.specs.declared.Found.{Found}
-use Rattle.octets.specs.declared.Found.TheVariants.{At, Nothing}
 use Rattle.components.specs.Files.{Files, no_files}
 use Rattle.held.specs.Held.{filled, load, taken}
 use Rattle.layout.specs.Disk.{directories}
@@ -48,7 +45,7 @@ module _ (st : Store) (t began fs cache start : ℕ) (memory : List ℕ) (fits :
   step-new l f w = ap (step_open st t fs cache start memory) w ∙ rw (eq-eqb t t refl, fits, shut)
 
   step-known : (l f : ℕ) (bs : List ℕ) → st.writer ≡ appending t began true l f → fs ≡ st.size
-      → load fs st.held.files (max (l - cache) f) (l - max (l - cache) f) ≡ some bs
+      → load fs st.held.files (max (l - cache) f) (l - max (l - cache) f) ≡ Some bs
       → step (open' t fs cache start memory) st
       ≡ then (Done 1) st.last st st.readers (appending t began true l f) true true
       (filled cache (max (l - cache) f) memory bs (taken st.size began l f st.held.files))
@@ -85,12 +82,12 @@ module _ (d s : List ℕ) (t : ℕ) (wanted : List ℕ) (entry fs cache start : 
   unfolding seen_by
   staged-was = by (place_of s wanted) refl sv.opens.shut
     where
-      by : (f : Found) → place_of s wanted ≡ f → is_open_tape s f ≡ false → staged_in s f ≡ shown (view_found s f)
-      by (At q) at shut =
+      by : (f : Option ℕ) → place_of s wanted ≡ f → is_open_tape s f ≡ false → staged_in s f ≡ shown (view_found s f)
+      by (Some q) at shut =
           let none : handle_number s q ≡ 0
           = decide (eqb (handle_number s q) 0) (λ z. eqb-true _ _ z) (λ (z : eqb (handle_number s q) 0 ≡ false). absurd (true≢false (rw z at shut))) in
           rw (orderly.shut-untouched q (name-low s names_at wanted q at) none)
-      by Nothing at shut = refl
+      by None at shut = refl
 
   module _ (st : Store) (seen : Seen d s wanted st) where
     writer-was : st.writer ≡ appending t began (shown v).listed (shown v).len (shown v).start
@@ -162,17 +159,17 @@ module _ (d s : List ℕ) (t : ℕ) (wanted : List ℕ) (entry fs cache start : 
           writer-was ∙ ap (λ (x : View). appending t began x.listed x.len x.start) as-listed ∙ (λ i. appending t began (known i) (len_is i) (start_is i))
 
       -- its files have what its cache is filled with
-      loads : load fs st.held.files (cached_from o) (o.len - cached_from o) ≡ some bs
+      loads : load fs st.held.files (cached_from o) (o.len - cached_from o) ≡ Some bs
       unfolding opening_of
       loads = by (find_name d directories wanted) refl sv.opens.there
         where
-          by : (f : Found) → find_name d directories wanted ≡ f → (o.listed && is_nothing f) ≡ false → load fs st.held.files (cached_from o) (o.len - cached_from o) ≡ some bs
-          by (At place) there some-there =
+          by : (f : Option ℕ) → find_name d directories wanted ≡ f → (o.listed && is_nothing f) ≡ false → load fs st.held.files (cached_from o) (o.len - cached_from o) ≡ Some bs
+          by (Some place) there some-there =
               ap (λ (f : Files). load fs f (cached_from o) (o.len - cached_from o)) (sym seen.files ∙ ap (files_in d s) there)
               ∙ load-reads d s orderly.disk wanted place there fs (cached_from o) (o.len - cached_from o)
               ∙ ap (λ (n : ℕ). given (can_read d s false wanted fs (cached_from o) n) (read_run d wanted fs (cached_from o) n)) (sym count-known)
               ∙ ap (λ (b : Bool). given b bs) sv.opens.fill
-          by Nothing there some-there = absurd (true≢false (rw known at some-there))
+          by None there some-there = absurd (true≢false (rw known at some-there))
 
       goes-known : fs ≡ st.size → step (open' t fs cache start (ring_bytes s p)) st ≡ step_opened
       unfolding opening_of
@@ -210,7 +207,7 @@ module _ (d s : List ℕ) (t : ℕ) (wanted : List ℕ) (entry fs cache start : 
         (λ found.
         let list : shown (view_of s 17 p) ≡ record { listed = st.listed; len = st.len; start = st.start } = ap (view_in s 17) (sym found) ∙ seen.list in
         let same : view_of s 16 p ≡ view_of s 17 p = orderly.writer-view (rw sv.kind) p sv.low in
-        ap (λ (f : Found). cond (view_found s f).listed (view_found s f).len start) found
+        ap (λ (f : Option ℕ). cond (view_found s f).listed (view_found s f).len start) found
         ∙ ap (λ (x : View). cond x.listed x.len start) same
         ∙ listed-len start (view_of s 17 p) st.listed st.len st.start list listed)
         (λ missing free. absurd (true≢false (sym listed ∙ sym (ap (λ (x : View). x.listed) (ap (view_in s 17) (sym missing) ∙ seen.list)))))
@@ -249,5 +246,5 @@ module _ (d s : List ℕ) (t : ℕ) (wanted : List ℕ) (entry fs cache start : 
       let here = own-place d s u p wanted o bs orderly sv.low sv.shaped.name-some sv.opens.place rows in
       record {
         number = ap (handle_in u) here ∙ ap (λ (h : Handle). h.number) rows.own-handle;
-        size = λ some. ap (entry_in u) here ∙ ap (λ (h : Handle). h.entry) rows.own-handle;
+        size = λ Some. ap (entry_in u) here ∙ ap (λ (h : Handle). h.entry) rows.own-handle;
       }

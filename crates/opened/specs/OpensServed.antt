@@ -1,11 +1,10 @@
 -- All that a served open has found and leaves, of areas that are in order. Assumes nothing.
-use Rattle.std.specs.Prelude.{◌≡◌, true, List, ℕ, ◌<◌, ◌^◌}
+use Rattle.std.specs.Prelude.{◌≡◌, true, List, ℕ, ◌<◌, ◌^◌, Ok}
 use Rattle.std.proofs.Common.{sym, subst, ◌∙◌}
 use Rattle.std.proofs.Math.Path.{ap}
 use Rattle.octets.specs.Number.{Bytes}
 use Rattle.answers.specs.Answers.{code_of}
 use Rattle.answers.specs.Outcome.{Outcome}
-use Rattle.answers.specs.declared.Answer.TheVariants.{Done}
 use Rattle.layout.specs.Disk.{directories}
 use Rattle.layout.specs.Names.{find_name}
 use Rattle.session.specs.Rows.{transaction_of}
@@ -65,7 +64,7 @@ module _ (d s : List ℕ) (t : ℕ) (wanted : List ℕ) (entry fs cache start : 
   went : Went d s t wanted entry fs cache start result
   went = open-went d s t wanted entry fs cache start served
 
-  pub open-answer : result.answer ≡ Done (next_handle s)
+  pub open-answer : result.answer ≡ Ok (next_handle s)
   unfolding open_now open_with
   open-answer = ap (λ (r : Outcome). r.answer) went.same
 

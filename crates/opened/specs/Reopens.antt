@@ -1,15 +1,12 @@
 -- What is served of areas that are in order: a `store`, also over another session area; an append where nobody writes, as behind a `store`; and the open of a
 -- tape that sleeps on the disk, or of a new one. Assumes nothing.
-use Rattle.std.specs.Prelude.{◌≡◌, refl, ◌≢◌, Bool, true, false, List, ℕ, ◌+◌, ◌-◌, ◌%◌, ◌≤◌, ◌<◌, max, length, take, drop}
+use Rattle.std.specs.Prelude.{◌≡◌, refl, ◌≢◌, Bool, true, false, List, ℕ, ◌+◌, ◌-◌, ◌%◌, ◌≤◌, ◌<◌, max, length, take, drop, Option, Some, None, Ok}
 use Rattle.std.proofs.Common.{sym, subst, ◌∙◌, true≢false, arith, eq-eqb, le-leb}
 use Rattle.std.proofs.Math.Path.{ap}
 use Rattle.octets.specs.Compare.{same_bytes}
 use Rattle.octets.specs.Number.{Bytes}
-use Rattle.octets.specs.declared.Found.{Found}
-use Rattle.octets.specs.declared.Found.TheVariants.{At, Nothing}
 use Rattle.answers.specs.Answers.{code_of}
 use Rattle.answers.specs.Outcome.{Outcome, refused_at}
-use Rattle.answers.specs.declared.Answer.TheVariants.{Done}
 use Rattle.answers.specs.declared.Refusal.TheVariants.{TooLarge}
 use Rattle.components.specs.Files.{Files}
 use Rattle.components.specs.Pieces.{file_of}
@@ -58,24 +55,24 @@ use Rattle.opened.specs.OpensPlaces.{listed_then}
 -- ---- a store
 
 -- over any area that a session may lie in: the list that counts is on the disk
-pub store-serves-in : (d s area : List ℕ) → Orderly d s → sound area ≡ true → (store_call d area).answer ≡ Done (head_of s).epoch
+pub store-serves-in : (d s area : List ℕ) → Orderly d s → sound area ≡ true → (store_call d area).answer ≡ Ok (head_of s).epoch
 store-serves-in d s area o free =
     ap (λ (r : After). r.answer) (store-starts d area (both-by-session d area (DL.→sound d o.disk) ∙ free))
     ∙ ap (λ (l : Listing). (start_with d area l).answer) o.recorded.read
-    ∙ ap Done o.recorded.epoch
+    ∙ ap Ok o.recorded.epoch
 
-pub store-serves : (d s : List ℕ) → Orderly d s → (store_call d s).answer ≡ Done (head_of s).epoch
+pub store-serves : (d s : List ℕ) → Orderly d s → (store_call d s).answer ≡ Ok (head_of s).epoch
 store-serves d s o = store-serves-in d s s o (→sound s o.session)
 
 -- ---- an append
 
 pub append-serves-idle : (d s : List ℕ) → Orderly d s → is_open_at s 16 ≡ false → (head_of s).cut ≡ false → (head_of s).last_transaction ≢ 0xffff_ffff_ffff_ffff
-    → (append_call d s).answer ≡ Done ((head_of s).last_transaction + 1)
+    → (append_call d s).answer ≡ Ok ((head_of s).last_transaction + 1)
 append-serves-idle d s o free uncut more =
     ap (λ (r : After). r.answer) (append-uncut d s (orderly-usable d s o) free uncut ∙ begins-at s 16 K.Append more)
 
 -- behind a store nobody writes, no commit was a truncate's, and no number was given
-pub append-after-store-in : (d s area : List ℕ) → Orderly d s → sound area ≡ true → Bytes area → (append_call d (store_call d area).session).answer ≡ Done 1
+pub append-after-store-in : (d s area : List ℕ) → Orderly d s → sound area ≡ true → Bytes area → (append_call d (store_call d area).session).answer ≡ Ok 1
 append-after-store-in d s area o free bytes =
     let served : code_of (store_call d area).answer ≡ 0 = ap code_of (store-serves-in d s area o free) in
     let u = (store_call d area).session in
@@ -84,9 +81,9 @@ append-after-store-in d s area o free bytes =
     append-serves-idle d u (store-orderly d area (orderly-disk d s o) bytes served) (shut-stored d area o.disk-bytes served 16 (omega arith))
     (ap (λ (h : Head). h.cut) head)
     (λ e. omega arith)
-    ∙ ap (λ (i : ℕ). Done (i + 1)) last
+    ∙ ap (λ (i : ℕ). Ok (i + 1)) last
 
-pub append-after-store : (d s : List ℕ) → Orderly d s → (append_call d (store_call d s).session).answer ≡ Done 1
+pub append-after-store : (d s : List ℕ) → Orderly d s → (append_call d (store_call d s).session).answer ≡ Ok 1
 append-after-store d s o = append-after-store-in d s s o (→sound s o.session) o.session-bytes
 
 -- ---- an open
@@ -98,7 +95,7 @@ listed-view x li l f e listed = (shown-listed x _ e listed).1 ∙ ap (λ (b : Bo
 -- a name and sizes that are in range
 module _ (n : List ℕ) (o : Opening) (named : name_rule n ≡ true) (other : same_bytes n METADATA ≡ false) where
   shaped : 1 ≤ o.entry → o.entry ≤ 256 → 1 ≤ o.file_size → o.file_size ≤ 4096 → 1 ≤ o.cache → o.cache ≤ 4096
-      → o.len % o.entry ≡ 0 → o.start % o.entry ≡ 0 → shape_of n o ≡ Done 0
+      → o.len % o.entry ≡ 0 → o.start % o.entry ≡ 0 → shape_of n o ≡ Ok 0
   shaped entry-some entry-small file-some file-small cache-some cache-small len_whole start-whole =
       shape-good n o named (rw (le-leb 1 o.entry entry-some, le-leb o.entry 256 entry-small))
       (rw (eq-eqb (o.len % o.entry) 0 len_whole, eq-eqb (o.start % o.entry) 0 start-whole))
@@ -112,15 +109,15 @@ module _ (d s n : List ℕ) (orderly : Orderly d s) (st : Store) (seen : Seen d 
   -- its place, and what the list says of it
   record Known : Type 0 where
     place : ℕ
-    found : place_of s n ≡ At place
+    found : place_of s n ≡ Some place
     view : view_of s 17 place ≡ record { listed = true; len = st.len; start = st.start }
 
   known : Known
   known = by (place_of s n) refl seen.list
     where
-      by : (f : Found) → place_of s n ≡ f → view_in s 17 f ≡ record { listed = st.listed; len = st.len; start = st.start } → Known
-      by (At q) e list = record { place = q; found = e; view = listed-view (view_of s 17 q) st.listed st.len st.start list listed }
-      by Nothing e list = absurd (true≢false (sym listed ∙ sym (ap (λ (v : View). v.listed) list)))
+      by : (f : Option ℕ) → place_of s n ≡ f → view_in s 17 f ≡ record { listed = st.listed; len = st.len; start = st.start } → Known
+      by (Some q) e list = record { place = q; found = e; view = listed-view (view_of s 17 q) st.listed st.len st.start list listed }
+      by None e list = absurd (true≢false (sym listed ∙ sym (ap (λ (v : View). v.listed) list)))
 
   -- what is opened has the list's length and start
   opened-known : is_open_at s 16 ≡ true → (entry fs cache start : ℕ)
@@ -130,27 +127,27 @@ module _ (d s n : List ℕ) (orderly : Orderly d s) (st : Store) (seen : Seen d 
   opened-known writer entry fs cache start =
       let q = known.place in
       let low = name-low s names_at n q known.found in
-      ap (λ (f : Found). opening_of (view_found s f) entry fs cache start) known.found
+      ap (λ (f : Option ℕ). opening_of (view_found s f) entry fs cache start) known.found
       ∙ ap (λ (v : View). opening_of v entry fs cache start) (orderly.writer-view writer q low ∙ known.view)
 
   -- its directory
   record Housed : Type 0 where
     directory : ℕ
-    there : find_name d directories n ≡ At directory
+    there : find_name d directories n ≡ Some directory
 
   home : Proper d s → Housed
   home proper = by (find_name d directories n) refl
     where
-      by : (f : Found) → find_name d directories n ≡ f → Housed
-      by (At i) e = record { directory = i; there = e }
-      by Nothing e =
+      by : (f : Option ℕ) → find_name d directories n ≡ f → Housed
+      by (Some i) e = record { directory = i; there = e }
+      by None e =
           let q = known.place in
           let house = proper.housed q (name-low s names_at n q known.found) (ap (λ (v : View). v.listed) known.view) in
           let nowhere = ap (λ (m : List ℕ). is_found (find_name d directories m)) (found_name s names_at n q known.found) ∙ ap is_found e in
           absurd (true≢false (sym house ∙ nowhere))
 
 -- its files hold what its cache is filled with: they are on the disk, tracked or not
-can-fill : (d s n : List ℕ) → Orderly d s → (t : Told) (p : Phys) → Dormant t p → Seen d s n (build t p) → (i : ℕ) → find_name d directories n ≡ At i
+can-fill : (d s n : List ℕ) → Orderly d s → (t : Told) (p : Phys) → Dormant t p → Seen d s n (build t p) → (i : ℕ) → find_name d directories n ≡ Some i
     → (entry cache : ℕ)
     → can_fill d s n (record { entry = entry; file_size = t.size; cache = cache; listed = true; len = length t.content; start = t.start }) ≡ true
 can-fill d s n orderly t p dormant seen i there entry cache =
@@ -174,13 +171,13 @@ module _ (d s n : List ℕ) (long : 0 < length n) (orderly : Orderly d s) (prope
   abbrev own : Known d s n orderly (build t p) seen listed
   own = known d s n orderly (build t p) seen listed
 
-  abbrev folder : Found
+  abbrev folder : Option ℕ
   folder = find_name d directories n
 
   dormant : Dormant t p
   dormant = subst (λ (b : Bool). GoodIf b t p) shut good
 
-  its_shape : shape_of n asked ≡ Done 0
+  its_shape : shape_of n asked ≡ Ok 0
   its_shape =
       let low = name-low s names_at n own.place own.found in
       let has = found_name s names_at n own.place own.found in
@@ -208,7 +205,7 @@ module _ (d s n : List ℕ) (long : 0 < length n) (orderly : Orderly d s) (prope
       let house = home d s n orderly (build t p) seen listed proper in
       can-fill d s n orderly t p dormant seen house.directory house.there entry cache
 
-  pub open-serves : (head_of s).last_handle ≢ 0xffff_ffff_ffff_ffff → (open_call d s k n entry t.size cache start).answer ≡ Done ((head_of s).last_handle + 1)
+  pub open-serves : (head_of s).last_handle ≢ 0xffff_ffff_ffff_ffff → (open_call d s k n entry t.size cache start).answer ≡ Ok ((head_of s).last_handle + 1)
   unfolding open_now open_with
   open-serves more = ap (λ (r : Outcome). r.answer) (at_its_place ∙ in-now d s n asked folder own.place few there fill more)
 
@@ -223,10 +220,10 @@ module _ (d s n : List ℕ) (long : 0 < length n) (orderly : Orderly d s) (prope
 
 -- wherever the tape has its place, or the first free one, and it is no ninth name
 pub open-new-serves : (d s n : List ℕ) → Orderly d s → (st : Store) → Seen d s n st → st.live ≡ false → st.listed ≡ false → name_rule n ≡ true
-    → same_bytes n METADATA ≡ false → is_ninth d s false (find_name d directories n) ≡ false → (q : ℕ) → place_for s (place_of s n) ≡ At q
+    → same_bytes n METADATA ≡ false → is_ninth d s false (find_name d directories n) ≡ false → (q : ℕ) → place_for s (place_of s n) ≡ Some q
     → (k entry fs cache start : ℕ) → writes s k ≡ true → 1 ≤ entry → entry ≤ 256 → start % entry ≡ 0 → 1 ≤ fs → fs ≤ 4096 → 1 ≤ cache → cache ≤ 4096
     → (head_of s).last_handle ≢ 0xffff_ffff_ffff_ffff
-    → (open_call d s k n entry fs cache start).answer ≡ Done ((head_of s).last_handle + 1)
+    → (open_call d s k n entry fs cache start).answer ≡ Ok ((head_of s).last_handle + 1)
 unfolding open_now open_with
 open-new-serves d s n orderly st seen shut unlisted named other few q place k entry fs cache start writer entry-some entry-small whole file-some file-small cache-some cache-small more =
     let o : Opening = record { entry = entry; file_size = fs; cache = cache; listed = false; len = start; start = start } in

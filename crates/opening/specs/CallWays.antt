@@ -1,10 +1,7 @@
 -- The ways out of the call, in the code's order: a law for each. Assumes nothing.
-use Rattle.std.specs.Prelude.{◌≡◌, ◌≢◌, true, false, ◌&&◌, List, [], ℕ, ◌<◌}
+use Rattle.std.specs.Prelude.{◌≡◌, ◌≢◌, true, false, ◌&&◌, List, [], ℕ, ◌<◌, Option, Some, None, Ok, Err}
 use borrow.Author.Tests.{eq-eqb, ne_eqb}
-use Rattle.octets.specs.declared.Found.{Found}
-use Rattle.octets.specs.declared.Found.TheVariants.{At, Nothing}
 use Rattle.answers.specs.Outcome.{refused_at}
-use Rattle.answers.specs.declared.Answer.TheVariants.{Done, Refused}
 use Rattle.answers.specs.declared.Refusal.{Refusal}
 use Rattle.answers.specs.declared.Refusal.TheVariants.{Unusable, Unknown, Full, AlreadyOpen, Missing, TooLarge}
 use Rattle.layout.specs.Disk.{directories}
@@ -20,11 +17,11 @@ use Rattle.opening.specs.NamesLeft.{is_nothing, is_ninth}
 use Rattle.opening.specs.Calls.{can_fill, open_now, open_in, is_open_tape, place_for, open_at, open_on, open_call, place_of, opened}
 
 -- the place for a tape that has one below 8, or none
-pub place-low : (s : List ℕ) (tape : Found) (p : ℕ) → ((q : ℕ) → tape ≡ At q → q < 8) → place_for s tape ≡ At p → p < 8
-place-low s (At q) p low e = low p e
-place-low s Nothing p low e = name-low s names_at [] p e
+pub place-low : (s : List ℕ) (tape : Option ℕ) (p : ℕ) → ((q : ℕ) → tape ≡ Some q → q < 8) → place_for s tape ≡ Some p → p < 8
+place-low s (Some q) p low e = low p e
+place-low s None p low e = name-low s names_at [] p e
 
-module _ (d s wanted : List ℕ) (o : Opening) (directory : Found) (p : ℕ) where
+module _ (d s wanted : List ℕ) (o : Opening) (directory : Option ℕ) (p : ℕ) where
   pub in-ninth : is_ninth d s o.listed directory ≡ true → open_in d s wanted o directory p ≡ refused_at Full d s
   unfolding open_in
   in-ninth h = rw h
@@ -48,25 +45,25 @@ module _ (d s wanted : List ℕ) (o : Opening) (directory : Found) (p : ℕ) whe
         unfolding open_in
         in-now h = rw (few, there, fill, ne_eqb (head_of s).last_handle 0xffff_ffff_ffff_ffff h)
 
-module _ (d s wanted : List ℕ) (o : Opening) (tape : Found) where
+module _ (d s wanted : List ℕ) (o : Opening) (tape : Option ℕ) where
   pub at_open : is_open_tape s tape ≡ true → open_at d s wanted o tape ≡ refused_at AlreadyOpen d s
   unfolding open_at
   at_open h = rw h
 
   module _ (shut : is_open_tape s tape ≡ false) where
-    pub at-full : place_for s tape ≡ Nothing → open_at d s wanted o tape ≡ refused_at Full d s
+    pub at-full : place_for s tape ≡ None → open_at d s wanted o tape ≡ refused_at Full d s
     unfolding open_at
     at-full h = rw (shut, h)
 
-    pub at_place : (p : ℕ) → place_for s tape ≡ At p → open_at d s wanted o tape ≡ open_in d s wanted o (find_name d directories wanted) p
+    pub at_place : (p : ℕ) → place_for s tape ≡ Some p → open_at d s wanted o tape ≡ open_in d s wanted o (find_name d directories wanted) p
     unfolding open_at
     at_place p h = rw (shut, h)
 
-  pub on-shaped : (v : ℕ) → shape_of wanted o ≡ Done v → open_on d s wanted o tape ≡ open_at d s wanted o tape
+  pub on-shaped : (v : ℕ) → shape_of wanted o ≡ Ok v → open_on d s wanted o tape ≡ open_at d s wanted o tape
   unfolding open_on
   on-shaped v h = rw h
 
-  pub on-refused : (why : Refusal) → shape_of wanted o ≡ Refused why → open_on d s wanted o tape ≡ refused_at why d s
+  pub on-refused : (why : Refusal) → shape_of wanted o ≡ Err why → open_on d s wanted o tape ≡ refused_at why d s
   unfolding open_on
   on-refused why h = rw h
 

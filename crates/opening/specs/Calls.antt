@@ -1,10 +1,7 @@
 -- "Open: 6, 8 (entry), 10, 8 (file), 7, 8 (cache), 9, 5, 16, 18", behind 1 and 2. Assumes nothing.
-use Rattle.std.specs.Prelude.{Bool, true, false, cond, not, ◌&&◌, List, [], ℕ, ◌+◌, ◌-◌, eqb}
-use Rattle.octets.specs.declared.Found.{Found}
-use Rattle.octets.specs.declared.Found.TheVariants.{At, Nothing}
+use Rattle.std.specs.Prelude.{Bool, true, false, cond, not, ◌&&◌, List, [], ℕ, ◌+◌, ◌-◌, eqb, Option, Some, None, Ok, Err}
 use Rattle.answers.specs.Outcome.{Outcome, outcome, refused_at}
-use Rattle.answers.specs.declared.Answer.{Answer}
-use Rattle.answers.specs.declared.Answer.TheVariants.{Done, Refused}
+use Rattle.answers.specs.Answers.{Answer}
 use Rattle.answers.specs.declared.Refusal.TheVariants.{Unusable, Unknown, Full, AlreadyOpen, Missing, TooLarge}
 use Rattle.layout.specs.Disk.{directories}
 use Rattle.layout.specs.Names.{find_name, put_name}
@@ -64,16 +61,16 @@ rowed s p o bs = put_head (put_handle (put_staged (filled_with s p o.cache (cach
 -- ---- the tape in place p
 
 -- its cache filled with some bytes
-unfoldable pub open_with : List ℕ → List ℕ → List ℕ → Opening → Found → ℕ → List ℕ → Outcome
+unfoldable pub open_with : List ℕ → List ℕ → List ℕ → Opening → Option ℕ → ℕ → List ℕ → Outcome
 open_with d s wanted o directory p bs =
-    outcome (Done (next_handle s))
+    outcome (Ok (next_handle s))
     (readied (areas d s) wanted o (transaction_of s 16).epoch directory).disk
     (rowed (put_name (readied (areas d s) wanted o (transaction_of s 16).epoch directory).session names_at p wanted) p o bs)
 
-unfoldable pub open_now : List ℕ → List ℕ → List ℕ → Opening → Found → ℕ → Outcome
+unfoldable pub open_now : List ℕ → List ℕ → List ℕ → Opening → Option ℕ → ℕ → Outcome
 open_now d s wanted o directory p = open_with d s wanted o directory p (cached_bytes d wanted o)
 
-unfoldable pub open_in : List ℕ → List ℕ → List ℕ → Opening → Found → ℕ → Outcome
+unfoldable pub open_in : List ℕ → List ℕ → List ℕ → Opening → Option ℕ → ℕ → Outcome
 open_in d s wanted o directory p =
     cond (is_ninth d s o.listed directory) (refused_at Full d s)
     (cond (o.listed && is_nothing directory) (refused_at Missing d s)
@@ -84,39 +81,39 @@ open_in d s wanted o directory p =
 -- ---- the tape of a name
 
 -- its place in the session
-abbrev pub place_of : List ℕ → List ℕ → Found
+abbrev pub place_of : List ℕ → List ℕ → Option ℕ
 place_of s wanted = find_name s names_at wanted
 
-abbrev pub view_found : List ℕ → Found → View
-view_found s (At p) = view_of s 16 p
-view_found s Nothing = no_view
+abbrev pub view_found : List ℕ → Option ℕ → View
+view_found s (Some p) = view_of s 16 p
+view_found s None = no_view
 
 -- it has a handle
-abbrev pub is_open_tape : List ℕ → Found → Bool
-is_open_tape s (At p) = not (eqb (handle_number s p) 0)
-is_open_tape s Nothing = false
+abbrev pub is_open_tape : List ℕ → Option ℕ → Bool
+is_open_tape s (Some p) = not (eqb (handle_number s p) 0)
+is_open_tape s None = false
 
 -- what is opened
 abbrev pub opened : List ℕ → List ℕ → ℕ → ℕ → ℕ → ℕ → Opening
 opened s wanted entry fs cache start = opening_of (view_found s (place_of s wanted)) entry fs cache start
 
 -- the place that the tape has, else the first free one
-abbrev pub place_for : List ℕ → Found → Found
-place_for s (At p) = At p
-place_for s Nothing = find_name s names_at []
+abbrev pub place_for : List ℕ → Option ℕ → Option ℕ
+place_for s (Some p) = Some p
+place_for s None = find_name s names_at []
 
-abbrev pub open_placed : List ℕ → List ℕ → List ℕ → Opening → Found → Outcome
-open_placed d s wanted o (At p) = open_in d s wanted o (find_name d directories wanted) p
-open_placed d s wanted o Nothing = refused_at Full d s
+abbrev pub open_placed : List ℕ → List ℕ → List ℕ → Opening → Option ℕ → Outcome
+open_placed d s wanted o (Some p) = open_in d s wanted o (find_name d directories wanted) p
+open_placed d s wanted o None = refused_at Full d s
 
-unfoldable pub open_at : List ℕ → List ℕ → List ℕ → Opening → Found → Outcome
+unfoldable pub open_at : List ℕ → List ℕ → List ℕ → Opening → Option ℕ → Outcome
 open_at d s wanted o tape = cond (is_open_tape s tape) (refused_at AlreadyOpen d s) (open_placed d s wanted o (place_for s tape))
 
-abbrev pub open_shaped : List ℕ → List ℕ → List ℕ → Opening → Found → Answer → Outcome
-open_shaped d s wanted o tape (Done v) = open_at d s wanted o tape
-open_shaped d s wanted o tape (Refused why) = refused_at why d s
+abbrev pub open_shaped : List ℕ → List ℕ → List ℕ → Opening → Option ℕ → Answer → Outcome
+open_shaped d s wanted o tape (Ok v) = open_at d s wanted o tape
+open_shaped d s wanted o tape (Err why) = refused_at why d s
 
-unfoldable pub open_on : List ℕ → List ℕ → List ℕ → Opening → Found → Outcome
+unfoldable pub open_on : List ℕ → List ℕ → List ℕ → Opening → Option ℕ → Outcome
 open_on d s wanted o tape = open_shaped d s wanted o tape (shape_of wanted o)
 
 unfoldable pub open_call : List ℕ → List ℕ → ℕ → List ℕ → ℕ → ℕ → ℕ → ℕ → Outcome

@@ -1,8 +1,6 @@
 -- What an open does to a tape's directory. "Opening a name absent from the view empties its directory .. Opening a known name tracks its files numbered up
 -- to that of len, then marks and removes those below start's file, by the removal rule with oldest epoch 2^64-1." Assumes nothing.
-use Rattle.std.specs.Prelude.{cond, List, [], ℕ}
-use Rattle.octets.specs.declared.Found.{Found}
-use Rattle.octets.specs.declared.Found.TheVariants.{At, Nothing}
+use Rattle.std.specs.Prelude.{cond, List, [], ℕ, Option, Some, None}
 use Rattle.components.specs.Pieces.{file_of}
 use Rattle.layout.specs.Disk.{directories}
 use Rattle.layout.specs.Names.{find_name}
@@ -26,10 +24,10 @@ unfoldable pub emptied : Areas → ℕ → Areas
 emptied a place = areas (empty_directory a.disk place) (retracked a.disk a.session place UntrackAll)
 
 -- a new directory; files that damaged memory says it has go too
-abbrev pub added : Areas → List ℕ → Found → Areas
-added a wanted (At place) = areas (add_directory (emptied a place).disk wanted).area (emptied a place).session
-added a wanted Nothing = a
+abbrev pub added : Areas → List ℕ → Option ℕ → Areas
+added a wanted (Some place) = areas (add_directory (emptied a place).disk wanted).area (emptied a place).session
+added a wanted None = a
 
-abbrev pub readied : Areas → List ℕ → Opening → ℕ → Found → Areas
-readied a wanted o began (At place) = cond o.listed (taken_files a place o began) (emptied a place)
-readied a wanted o began Nothing = added a wanted (find_name a.disk directories [])
+abbrev pub readied : Areas → List ℕ → Opening → ℕ → Option ℕ → Areas
+readied a wanted o began (Some place) = cond o.listed (taken_files a place o began) (emptied a place)
+readied a wanted o began None = added a wanted (find_name a.disk directories [])

@@ -1,11 +1,9 @@
 -- Laws of what an open does to a tape's directory: the disk stays sound, and of the session only the rows of tracking change. Assumes nothing.
-use Rattle.std.specs.Prelude.{◌≡◌, List, [], ℕ, ◌≤◌, length}
+use Rattle.std.specs.Prelude.{◌≡◌, List, [], ℕ, ◌≤◌, length, Option, Some, None}
 use Rattle.std.proofs.Common.{◌∙◌, arith}
 use Rattle.octets.specs.Cases.{picked}
 use Rattle.octets.specs.Number.{Bytes}
 use Rattle.octets.specs.Only.{OnlyIn, only_then}
-use Rattle.octets.specs.declared.Found.{Found}
-use Rattle.octets.specs.declared.Found.TheVariants.{At, Nothing}
 use Rattle.components.specs.Pieces.{file_of}
 use Rattle.layout.specs.Disk.{directories, slots, Sound}
 use Rattle.layout.specs.Names.{find_name}
@@ -112,22 +110,22 @@ kept-made a wanted place sound small =
     }
 
 -- what holds after each way holds of a new directory
-add-either : (P : Areas → Type 0) (a : Areas) (wanted : List ℕ) (free : Found)
+add-either : (P : Areas → Type 0) (a : Areas) (wanted : List ℕ) (free : Option ℕ)
     → ((place : ℕ) → P (areas (add_directory (emptied a place).disk wanted).area (emptied a place).session)) → P a → P (added a wanted free)
-add-either P a wanted (At place) p q = p place
-add-either P a wanted Nothing p q = q
+add-either P a wanted (Some place) p q = p place
+add-either P a wanted None p q = q
 
 -- what holds after each way holds of a directory made ready
-ready-either : (P : Areas → Type 0) (a : Areas) (wanted : List ℕ) (o : Opening) (began : ℕ) (directory : Found)
+ready-either : (P : Areas → Type 0) (a : Areas) (wanted : List ℕ) (o : Opening) (began : ℕ) (directory : Option ℕ)
     → ((place : ℕ) → P (taken_files a place o began)) → ((place : ℕ) → P (emptied a place))
     → ((place : ℕ) → P (areas (add_directory (emptied a place).disk wanted).area (emptied a place).session)) → P a
     → P (readied a wanted o began directory)
-ready-either P a wanted o began (At place) p q r n = picked P o.listed (taken_files a place o began) (emptied a place) (λ e. p place) (λ e. q place)
-ready-either P a wanted o began Nothing p q r n = add-either P a wanted (find_name a.disk directories []) r n
+ready-either P a wanted o began (Some place) p q r n = picked P o.listed (taken_files a place o began) (emptied a place) (λ e. p place) (λ e. q place)
+ready-either P a wanted o began None p q r n = add-either P a wanted (find_name a.disk directories []) r n
 
 -- ---- a directory made ready
 
-module _ (a : Areas) (wanted : List ℕ) (o : Opening) (began : ℕ) (directory : Found) (sound : Sound a.disk) where
+module _ (a : Areas) (wanted : List ℕ) (o : Opening) (began : ℕ) (directory : Option ℕ) (sound : Sound a.disk) where
   pub bytes-readied-session : session_bytes ≤ length a.session → Bytes a.session → Bytes (readied a wanted o began directory).session
   bytes-readied-session long bytes =
       ready-either (λ (b : Areas). Bytes b.session) a wanted o began directory

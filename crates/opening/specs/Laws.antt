@@ -1,17 +1,14 @@
 -- Laws of the call: the contract leaves nothing open, a refused call changes nothing, and a served one keeps both layout rules and both lengths
 -- and leaves areas of bytes areas of bytes. Assumes nothing.
-use Rattle.std.specs.Prelude.{◌≡◌, ◌≢◌, true, ◌&&◌, List, ℕ, ◌<◌, eqb, length}
+use Rattle.std.specs.Prelude.{◌≡◌, ◌≢◌, true, ◌&&◌, List, ℕ, ◌<◌, eqb, length, Option, Some, None, Ok, Err}
 use Rattle.std.proofs.Math.Path.{refl}
 use Rattle.std.proofs.Common.{sym, ◌∙◌, arith, eq-eqb}
 use Rattle.std.proofs.Math.Bool.{false, true≢false}
 use Rattle.octets.specs.Cases.{picked, and_both}
 use Rattle.octets.specs.Number.{Bytes}
-use Rattle.octets.specs.declared.Found.{Found}
-use Rattle.octets.specs.declared.Found.TheVariants.{At, Nothing}
 use Rattle.answers.specs.Answers.{code_of}
 use Rattle.answers.specs.Outcome.{Outcome, outcome, refused_at, Unchanged}
-use Rattle.answers.specs.declared.Answer.{Answer}
-use Rattle.answers.specs.declared.Answer.TheVariants.{Done, Refused}
+use Rattle.answers.specs.Answers.{Answer}
 use Rattle.answers.specs.declared.Refusal.{Refusal}
 use Rattle.answers.specs.declared.Refusal.TheVariants.{Unusable, Unknown, Full, AlreadyOpen, Missing, TooLarge}
 use Rattle.layout.specs.Disk as D
@@ -48,25 +45,25 @@ open-unique d s t wanted entry fs cache start r r' d₁ d₂ s₁ s₂ e f = bot
 -- ---- what holds of each way out holds of the call
 
 -- what a call that is served has found: o is what is opened, tape is where the name stands among the tapes
-pub record Opens (d s wanted : List ℕ) (o : Opening) (tape : Found) (p : ℕ) : Type 0 where
+pub record Opens (d s wanted : List ℕ) (o : Opening) (tape : Option ℕ) (p : ℕ) : Type 0 where
   pub value : ℕ
-  pub shape : shape_of wanted o ≡ Done value
+  pub shape : shape_of wanted o ≡ Ok value
   pub shut : is_open_tape s tape ≡ false
-  pub place : place_for s tape ≡ At p
+  pub place : place_for s tape ≡ Some p
   pub few : is_ninth d s o.listed (find_name d D.directories wanted) ≡ false
   pub there : (o.listed && is_nothing (find_name d D.directories wanted)) ≡ false
   pub fill : can_fill d s wanted o ≡ true
   pub more : (head_of s).last_handle ≢ 0xffff_ffff_ffff_ffff
 
 module _ (P : Outcome → Type 0) (d s wanted : List ℕ) (no : (why : Refusal) → P (refused_at why d s)) where
-  module _ (o : Opening) (tape : Found) where
-    abbrev directory : Found
+  module _ (o : Opening) (tape : Option ℕ) where
+    abbrev directory : Option ℕ
     directory = find_name d D.directories wanted
 
     abbrev Served : Type 0
     Served = (p : ℕ) → Opens d s wanted o tape p → P (open_now d s wanted o directory p)
 
-    in-cases : (v : ℕ) → shape_of wanted o ≡ Done v → is_open_tape s tape ≡ false → (p : ℕ) → place_for s tape ≡ At p → Served → P (open_in d s wanted o directory p)
+    in-cases : (v : ℕ) → shape_of wanted o ≡ Ok v → is_open_tape s tape ≡ false → (p : ℕ) → place_for s tape ≡ Some p → Served → P (open_in d s wanted o directory p)
     unfolding open_in
     in-cases v shape shut p place goes =
         picked P (is_ninth d s o.listed directory) _ _ (λ e. no Full)
@@ -90,21 +87,21 @@ module _ (P : Outcome → Type 0) (d s wanted : List ℕ) (no : (why : Refusal) 
         })))
         (λ e. no Missing)))
 
-    at-cases : (v : ℕ) → shape_of wanted o ≡ Done v → Served → P (open_at d s wanted o tape)
+    at-cases : (v : ℕ) → shape_of wanted o ≡ Ok v → Served → P (open_at d s wanted o tape)
     unfolding open_at
     at-cases v shape goes = picked P (is_open_tape s tape) _ _ (λ e. no AlreadyOpen) (λ shut. by shut (place_for s tape) refl)
       where
-        by : is_open_tape s tape ≡ false → (f : Found) → place_for s tape ≡ f → P (open_placed d s wanted o f)
-        by shut (At p) place = in-cases v shape shut p place goes
-        by shut Nothing place = no Full
+        by : is_open_tape s tape ≡ false → (f : Option ℕ) → place_for s tape ≡ f → P (open_placed d s wanted o f)
+        by shut (Some p) place = in-cases v shape shut p place goes
+        by shut None place = no Full
 
     pub on-cases : Served → P (open_on d s wanted o tape)
     unfolding open_on
     on-cases goes = by (shape_of wanted o) refl
       where
         by : (a : Answer) → shape_of wanted o ≡ a → P (open_shaped d s wanted o tape a)
-        by (Done v) shape = at-cases v shape goes
-        by (Refused why) shape = no why
+        by (Ok v) shape = at-cases v shape goes
+        by (Err why) shape = no why
 
 -- the row of a tape whose shape is taken is in range
 pub row_fits : (d s wanted : List ℕ) (p : ℕ) (o : Opening) → Shaped wanted o → RowFits s p o (cached_bytes d wanted o)
@@ -165,7 +162,7 @@ module _ (d s : List ℕ) (t : ℕ) (wanted : List ℕ) (entry fs cache start : 
     abbrev began : ℕ
     began = (transaction_of s 16).epoch
 
-    abbrev found : Found
+    abbrev found : Option ℕ
     found = find_name d D.directories wanted
 
     abbrev after : Areas

@@ -1,13 +1,11 @@
 -- What a cache is filled with: no more than it holds, and no byte past the last index. The session before the tape's row
 -- is put. Assumes nothing.
-use Rattle.std.specs.Prelude.{◌≡◌, true, false, List, length, drop}
+use Rattle.std.specs.Prelude.{◌≡◌, true, false, List, length, drop, Option, Some, None}
 use Rattle.std.proofs.Common.{◌∙◌}
 use Prim.Native.Nat.{ℕ, zero, suc, ◌+◌, ◌≤◌, ◌<◌, ◌^◌}
 use native.Mathlib.Omega.{arith}
 use Rattle.octets.specs.Cases.{picked}
 use Rattle.octets.specs.Number.{Bytes, bytes_take, bytes_drop}
-use Rattle.octets.specs.declared.Found.{Found}
-use Rattle.octets.specs.declared.Found.TheVariants.{At, Nothing}
 use Rattle.components.specs.Pieces.{file_of, place_in}
 use Rattle.layout.specs.Disk.{data_at, len, Sound}
 use Rattle.layout.specs.Names.{put_name}
@@ -41,10 +39,10 @@ module _ (o : Opening) where
 -- ---- bytes that are read out of bytes
 
 module _ (d tape : List ℕ) (fs : ℕ) (bytes : Bytes d) where
-  bytes-found : (f : Found) → Bytes (bytes_of d f)
+  bytes-found : (f : Option ℕ) → Bytes (bytes_of d f)
   unfolding file_bytes
-  bytes-found (At i) = bytes_take (len d i) (drop (data_at i) d) (bytes_drop (data_at i) d bytes)
-  bytes-found Nothing = λ j. omega arith
+  bytes-found (Some i) = bytes_take (len d i) (drop (data_at i) d) (bytes_drop (data_at i) d bytes)
+  bytes-found None = λ j. omega arith
 
   pub bytes-read_run : (o n : ℕ) → Bytes (read_run d tape fs o n)
   unfolding read_run
@@ -54,7 +52,7 @@ module _ (d tape : List ℕ) (fs : ℕ) (bytes : Bytes d) where
 
 -- ---- the session with its directory ready and the tape's name in place
 
-module _ (a : Areas) (wanted : List ℕ) (o : Opening) (began : ℕ) (directory : Found) (p : ℕ) (sound : Sound a.disk) (small : length wanted ≤ 24) where
+module _ (a : Areas) (wanted : List ℕ) (o : Opening) (began : ℕ) (directory : Option ℕ) (p : ℕ) (sound : Sound a.disk) (small : length wanted ≤ 24) where
   abbrev pub named : List ℕ
   named = put_name (readied a wanted o began directory).session names_at p wanted
 

@@ -1,8 +1,7 @@
 -- What is opened, and whether its name and sizes are in range: "6, 8 (entry), 10, 8 (file), 7, 8 (cache)". Assumes nothing.
-use Rattle.std.specs.Prelude.{Bool, cond, ◌&&◌, List, [], ◌∷◌, ℕ, ◌%◌, eqb, leb}
+use Rattle.std.specs.Prelude.{Bool, cond, ◌&&◌, List, [], ◌∷◌, ℕ, ◌%◌, eqb, leb, Ok, Err}
 use Rattle.octets.specs.Compare.{same_bytes}
-use Rattle.answers.specs.declared.Answer.{Answer}
-use Rattle.answers.specs.declared.Answer.TheVariants.{Done, Refused}
+use Rattle.answers.specs.Answers.{Answer}
 use Rattle.answers.specs.declared.Refusal.TheVariants.{BadName, ReservedName, BadSize, NotWhole}
 use Rattle.metadata.specs.Name.{name_rule}
 use Rattle.session.specs.declared.views.View.{View}
@@ -37,8 +36,8 @@ shape_of name o =
     (cond (in_range o.entry 256)
     (cond (is_whole o)
     (cond (in_range o.file_size 4096)
-    (cond (same_bytes name METADATA) (Refused ReservedName) (cond (in_range o.cache 4096) (Done 0) (Refused BadSize)))
-    (Refused BadSize))
-    (Refused NotWhole))
-    (Refused BadSize))
-    (Refused BadName)
+    (cond (same_bytes name METADATA) (Err ReservedName) (cond (in_range o.cache 4096) (Ok 0) (Err BadSize)))
+    (Err BadSize))
+    (Err NotWhole))
+    (Err BadSize))
+    (Err BadName)

@@ -1,9 +1,8 @@
 -- What a shape that is answered Done says of the name and the sizes. Assumes nothing.
-use Rattle.std.specs.Prelude.{◌≡◌, Bool, true, false, List, ℕ, ◌≤◌, ◌<◌, leb, length}
+use Rattle.std.specs.Prelude.{◌≡◌, Bool, true, false, List, ℕ, ◌≤◌, ◌<◌, leb, length, Ok, Err}
 use Rattle.std.proofs.Common.{sym, ◌∙◌, true≢false, arith, leb-true}
 use Rattle.octets.specs.Cases.{decide, order, and_l, and_r}
 use Rattle.octets.specs.Compare.{same_bytes}
-use Rattle.answers.specs.declared.Answer.TheVariants.{Done, Refused}
 use Rattle.answers.specs.declared.Refusal.{Refusal}
 use Rattle.metadata.specs.Name.{name_rule}
 use Rattle.metadata.specs.NameLaws.{rule-empty, rule_fits}
@@ -44,9 +43,9 @@ pub record Shaped (wanted : List ℕ) (o : Opening) : Type 0 where
   pub cache-some : 1 ≤ o.cache
   pub cache-small : o.cache ≤ 4096
 
-pub shape-done : (wanted : List ℕ) (o : Opening) (v : ℕ) → shape_of wanted o ≡ Done v → Shaped wanted o
+pub shape-done : (wanted : List ℕ) (o : Opening) (v : ℕ) → shape_of wanted o ≡ Ok v → Shaped wanted o
 shape-done wanted o v done =
-    let not-refused : (why : Refusal) → shape_of wanted o ≡ Refused why → ⊥ = λ why e. let z : ◌≡◌ {A = ℕ} 0 1 = cc in omega arith in
+    let not-refused : (why : Refusal) → shape_of wanted o ≡ Err why → ⊥ = λ why e. let z : ◌≡◌ {A = ℕ} 0 1 = cc in omega arith in
     let named : name_rule wanted ≡ true = holds (name_rule wanted) (λ f. not-refused _ (shape-bad-name wanted o f)) in
     let entry : in_range o.entry 256 ≡ true = holds (in_range o.entry 256) (λ f. not-refused _ (shape-bad-entry wanted o named f)) in
     let whole : is_whole o ≡ true = holds (is_whole o) (λ f. not-refused _ (shape-not-whole wanted o named entry f)) in

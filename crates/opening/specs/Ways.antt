@@ -1,10 +1,7 @@
 -- The ways out of each function, in the code's order: a law for each. Assumes nothing.
-use Rattle.std.specs.Prelude.{◌≡◌, ◌≢◌, Bool, true, false, List, [], ℕ, ◌%◌, ◌≤◌, ◌<◌, eqb, leb, length}
+use Rattle.std.specs.Prelude.{◌≡◌, ◌≢◌, Bool, true, false, List, [], ℕ, ◌%◌, ◌≤◌, ◌<◌, eqb, leb, length, Option, Some, None, Ok, Err}
 use borrow.Author.Tests.{lt-ltb, le-ltb, le-leb, lt-leb, eq-eqb, ne_eqb}
 use Rattle.octets.specs.Compare.{same_bytes}
-use Rattle.octets.specs.declared.Found.{Found}
-use Rattle.octets.specs.declared.Found.TheVariants.{At, Nothing}
-use Rattle.answers.specs.declared.Answer.TheVariants.{Done, Refused}
 use Rattle.answers.specs.declared.Refusal.TheVariants.{BadName, ReservedName, BadSize, NotWhole}
 use Rattle.layout.specs.Disk.{directories}
 use Rattle.layout.specs.Names.{name, find_name}
@@ -47,36 +44,36 @@ module _ (o : Opening) where
   whole-start h = rw (eq-eqb (o.len % o.entry) 0 h)
 
 module _ (wanted : List ℕ) (o : Opening) where
-  pub shape-bad-name : name_rule wanted ≡ false → shape_of wanted o ≡ Refused BadName
+  pub shape-bad-name : name_rule wanted ≡ false → shape_of wanted o ≡ Err BadName
   unfolding shape_of
   shape-bad-name h = rw h
 
   module _ (named : name_rule wanted ≡ true) where
-    pub shape-bad-entry : in_range o.entry 256 ≡ false → shape_of wanted o ≡ Refused BadSize
+    pub shape-bad-entry : in_range o.entry 256 ≡ false → shape_of wanted o ≡ Err BadSize
     unfolding shape_of
     shape-bad-entry h = rw (named, h)
 
     module _ (entry : in_range o.entry 256 ≡ true) where
-      pub shape-not-whole : is_whole o ≡ false → shape_of wanted o ≡ Refused NotWhole
+      pub shape-not-whole : is_whole o ≡ false → shape_of wanted o ≡ Err NotWhole
       unfolding shape_of
       shape-not-whole h = rw (named, entry, h)
 
       module _ (whole : is_whole o ≡ true) where
-        pub shape-bad-file : in_range o.file_size 4096 ≡ false → shape_of wanted o ≡ Refused BadSize
+        pub shape-bad-file : in_range o.file_size 4096 ≡ false → shape_of wanted o ≡ Err BadSize
         unfolding shape_of
         shape-bad-file h = rw (named, entry, whole, h)
 
         module _ (file : in_range o.file_size 4096 ≡ true) where
-          pub shape-reserved : same_bytes wanted METADATA ≡ true → shape_of wanted o ≡ Refused ReservedName
+          pub shape-reserved : same_bytes wanted METADATA ≡ true → shape_of wanted o ≡ Err ReservedName
           unfolding shape_of
           shape-reserved h = rw (named, entry, whole, file, h)
 
           module _ (other : same_bytes wanted METADATA ≡ false) where
-            pub shape-bad-cache : in_range o.cache 4096 ≡ false → shape_of wanted o ≡ Refused BadSize
+            pub shape-bad-cache : in_range o.cache 4096 ≡ false → shape_of wanted o ≡ Err BadSize
             unfolding shape_of
             shape-bad-cache h = rw (named, entry, whole, file, other, h)
 
-            pub shape-good : in_range o.cache 4096 ≡ true → shape_of wanted o ≡ Done 0
+            pub shape-good : in_range o.cache 4096 ≡ true → shape_of wanted o ≡ Ok 0
             unfolding shape_of
             shape-good h = rw (named, entry, whole, file, other, h)
 
@@ -105,7 +102,7 @@ module _ (d s : List ℕ) (p : ℕ) where
     unfolding is_listed_alone
     alone-listed h = rw (named, h)
 
-module _ (d s : List ℕ) (listed : Bool) (directory : Found) where
+module _ (d s : List ℕ) (listed : Bool) (directory : Option ℕ) where
   pub ninth-listed : listed ≡ true → is_ninth d s listed directory ≡ false
   unfolding is_ninth
   ninth-listed h = rw h
@@ -126,20 +123,20 @@ module _ (d s : List ℕ) (listed : Bool) (directory : Found) where
 
 -- ---- the directory
 
-module _ (a : Areas) (wanted : List ℕ) (o : Opening) (began : ℕ) (directory : Found) where
-  module _ (place : ℕ) (there : directory ≡ At place) where
+module _ (a : Areas) (wanted : List ℕ) (o : Opening) (began : ℕ) (directory : Option ℕ) where
+  module _ (place : ℕ) (there : directory ≡ Some place) where
     pub ready-known : o.listed ≡ true → readied a wanted o began directory ≡ taken_files a place o began
     ready-known h = rw (there, h)
 
     pub ready-empty : o.listed ≡ false → readied a wanted o began directory ≡ emptied a place
     ready-empty h = rw (there, h)
 
-  pub ready_made : directory ≡ Nothing → readied a wanted o began directory ≡ added a wanted (find_name a.disk directories [])
+  pub ready_made : directory ≡ None → readied a wanted o began directory ≡ added a wanted (find_name a.disk directories [])
   ready_made h = rw h
 
-module _ (a : Areas) (wanted : List ℕ) (free : Found) where
-  pub add_at_lem : (place : ℕ) → free ≡ At place → added a wanted free ≡ areas (add_directory (emptied a place).disk wanted).area (emptied a place).session
+module _ (a : Areas) (wanted : List ℕ) (free : Option ℕ) where
+  pub add_at_lem : (place : ℕ) → free ≡ Some place → added a wanted free ≡ areas (add_directory (emptied a place).disk wanted).area (emptied a place).session
   add_at_lem place h = rw h
 
-  pub add-nowhere : free ≡ Nothing → added a wanted free ≡ a
+  pub add-nowhere : free ≡ None → added a wanted free ≡ a
   add-nowhere h = rw h

@@ -1,6 +1,5 @@
 // A tape opened under a name.
 ghost use Rattle.std.specs.Prelude.{◌≡◌, ℕ, ◌≤◌, ◌<◌, length};
-ghost use Rattle.octets.specs.declared.Found.TheVariants.{At};
 ghost use Rattle.answers.specs.Outcome.{outcome};
 ghost use Rattle.layout.specs.Disk.{Sound};
 ghost use Rattle.layout.specs.Session.{Begun};
@@ -9,9 +8,8 @@ ghost use Rattle.opening.specs.Calls.{can_fill, open_in, view_found, is_open_tap
 use crate::names_left::{is_gone, is_ninth};
 use crate::placing::{cached_count, cached_from, open_now};
 use crate::shape::{Opening, opening_of, shape_of};
-use answers::{Answer, Refusal};
+use answers::Refusal;
 use layout::Session;
-use octets::Found;
 use session::View;
 
 // Whether the bytes that the cache is filled with stand in the tape's files.
@@ -36,84 +34,84 @@ fn open_in(
     session: &mut [u8],
     name: &[u8],
     o: Opening,
-    directory: Found,
+    directory: Option<usize>,
     tape: usize,
-) -> Answer
-    requires { ((Sound disk.old × Begun session.old) × ((tape < 8) × ((place : ℕ) → directory ≡ At place → place < 8))) × ((length name.now ≤ 24) × (((0 < o.file_size) × (o.file_size ≤ 4096)) × (o.cache ≤ 4096))) }
+) -> Result<u64, Refusal>
+    requires { ((Sound disk.old × Begun session.old) × ((tape < 8) × ((place : ℕ) → directory ≡ Some place → place < 8))) × ((length name.now ≤ 24) × (((0 < o.file_size) × (o.file_size ≤ 4096)) × (o.cache ≤ 4096))) }
     ensures { open_in disk.old session.old name.now o directory tape ≡ outcome result disk.new session.new }
 {
     if is_ninth(disk, session, o.listed, directory) {
-        return Answer::Refused(Refusal::Full);
+        return Err(Refusal::Full);
     }
     if is_gone(o.listed, directory) {
-        return Answer::Refused(Refusal::Missing);
+        return Err(Refusal::Missing);
     }
     if can_fill(disk, session, name, o) {
         let head = session::get_head(session);
         if head.last_handle == 0xffff_ffff_ffff_ffff {
-            return Answer::Refused(Refusal::TooLarge);
+            return Err(Refusal::TooLarge);
         }
         return open_now(disk, session, name, o, directory, tape);
     }
-    Answer::Refused(Refusal::Missing)
+    Err(Refusal::Missing)
 }
 
-fn view_found(session: &[u8], tape: Found) -> View
-    requires { Begun session.now × ((p : ℕ) → tape ≡ At p → p < 8) }
+fn view_found(session: &[u8], tape: Option<usize>) -> View
+    requires { Begun session.now × ((p : ℕ) → tape ≡ Some p → p < 8) }
     ensures { result ≡ view_found session.now tape }
 {
     match tape {
-        Found::At(p) => session::get_view(session, Session::WRITER, p),
-        Found::Nothing => View::absent(),
+        Some(p) => session::get_view(session, Session::WRITER, p),
+        None => View::absent(),
     }
 }
 
-fn is_open_tape(session: &[u8], tape: Found) -> bool
-    requires { Begun session.now × ((p : ℕ) → tape ≡ At p → p < 8) }
+fn is_open_tape(session: &[u8], tape: Option<usize>) -> bool
+    requires { Begun session.now × ((p : ℕ) → tape ≡ Some p → p < 8) }
     ensures { result ≡ is_open_tape session.now tape }
 {
     match tape {
-        Found::At(p) => {
+        Some(p) => {
             let handle = session::get_handle(session, p);
             handle.number != 0
         }
-        Found::Nothing => false,
+        None => false,
     }
 }
 
 // The place that the tape has, else the first free one.
-fn place_for(session: &[u8], tape: Found) -> Found
+fn place_for(session: &[u8], tape: Option<usize>) -> Option<usize>
     requires { Begun session.now }
     ensures { result ≡ place_for session.now tape }
 {
     match tape {
-        Found::At(p) => Found::At(p),
-        Found::Nothing => session::find_tape(session, b""),
+        Some(p) => Some(p),
+        None => session::find_tape(session, b""),
     }
 }
 
-fn open_at(disk: &mut [u8], session: &mut [u8], name: &[u8], o: Opening, tape: Found) -> Answer
-    requires { ((Sound disk.old × Begun session.old) × ((p : ℕ) → tape ≡ At p → p < 8)) × ((length name.now ≤ 24) × (((0 < o.file_size) × (o.file_size ≤ 4096)) × (o.cache ≤ 4096))) }
+fn open_at(disk: &mut [u8], session: &mut [u8], name: &[u8], o: Opening, tape: Option<usize>) -> Result<u64, Refusal>
+    requires { ((Sound disk.old × Begun session.old) × ((p : ℕ) → tape ≡ Some p → p < 8)) × ((length name.now ≤ 24) × (((0 < o.file_size) × (o.file_size ≤ 4096)) × (o.cache ≤ 4096))) }
     ensures { open_at disk.old session.old name.now o tape ≡ outcome result disk.new session.new }
 {
     if is_open_tape(session, tape) {
-        return Answer::Refused(Refusal::AlreadyOpen);
+        return Err(Refusal::AlreadyOpen);
     }
-    let Found::At(p) = place_for(session, tape) else {
-        return Answer::Refused(Refusal::Full);
+    let Some(p) = place_for(session, tape) else {
+        return Err(Refusal::Full);
     };
     let directory = disk::find_directory(disk, name);
     open_in(disk, session, name, o, directory, p)
 }
 
-fn open_on(disk: &mut [u8], session: &mut [u8], name: &[u8], o: Opening, tape: Found) -> Answer
-    requires { (Sound disk.old × Begun session.old) × ((p : ℕ) → tape ≡ At p → p < 8) }
+fn open_on(disk: &mut [u8], session: &mut [u8], name: &[u8], o: Opening, tape: Option<usize>) -> Result<u64, Refusal>
+    requires { (Sound disk.old × Begun session.old) × ((p : ℕ) → tape ≡ Some p → p < 8) }
     ensures { open_on disk.old session.old name.now o tape ≡ outcome result disk.new session.new }
 {
     let shape = shape_of(name, o);
     match shape {
-        Answer::Done(_) => open_at(disk, session, name, o, tape),
-        Answer::Refused(why) => Answer::Refused(why),
+        Ok(_) => open_at(disk, session, name, o, tape),
+        Err(why) => Err(why),
     }
 }
 
@@ -128,7 +126,7 @@ pub fn open(
     file_size: u64,
     cache: u64,
     start: u64,
-) -> Answer
+) -> Result<u64, Refusal>
     ensures { open_call disk.old session.old transaction name.now entry file_size cache start ≡ outcome result disk.new session.new }
 {
     if beginning::is_usable(disk, session) {
@@ -138,7 +136,7 @@ pub fn open(
             let o = opening_of(view, entry, file_size, cache, start);
             return open_on(disk, session, name, o, tape);
         }
-        return Answer::Refused(Refusal::Unknown);
+        return Err(Refusal::Unknown);
     }
-    Answer::Refused(Refusal::Unusable)
+    Err(Refusal::Unusable)
 }

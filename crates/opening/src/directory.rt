@@ -1,7 +1,6 @@
 // What an open does to a tape's directory: a known tape's files are taken over, else it is made or
 // emptied.
 ghost use Rattle.std.specs.Prelude.{◌≡◌, [], ℕ, ◌≤◌, ◌<◌, length};
-ghost use Rattle.octets.specs.declared.Found.TheVariants.{At};
 ghost use Rattle.layout.specs.Disk.{Sound, directories};
 ghost use Rattle.layout.specs.Names.{find_name};
 ghost use Rattle.layout.specs.Session.{session_bytes};
@@ -9,7 +8,6 @@ ghost use Rattle.rolling_tape.specs.Removal.{areas};
 ghost use Rattle.opening.specs.Directory.{taken_files, emptied, added, readied};
 
 use crate::shape::Opening;
-use octets::Found;
 use rolling_tape::Change;
 
 // A known tape's files are tracked up to that of its length, and those below its start's are marked and
@@ -47,7 +45,7 @@ fn add(disk: &mut [u8], session: &mut [u8], name: &[u8])
     requires { (Sound disk.old × (session_bytes ≤ length session.old)) × (length name.now ≤ 24) }
     ensures { added (areas disk.old session.old) name.now (find_name disk.old directories []) ≡ areas disk.new session.new }
 {
-    let Found::At(place) = disk::find_directory(disk, b"") else {
+    let Some(place) = disk::find_directory(disk, b"") else {
         return;
     };
     empty(disk, session, place);
@@ -60,19 +58,19 @@ pub fn ready(
     name: &[u8],
     o: Opening,
     began: u64,
-    directory: Found,
+    directory: Option<usize>,
 )
-    requires { (Sound disk.old × (session_bytes ≤ length session.old)) × (((length name.now ≤ 24) × (0 < o.file_size)) × ((place : ℕ) → directory ≡ At place → place < 8)) }
+    requires { (Sound disk.old × (session_bytes ≤ length session.old)) × (((length name.now ≤ 24) × (0 < o.file_size)) × ((place : ℕ) → directory ≡ Some place → place < 8)) }
     ensures { readied (areas disk.old session.old) name.now o began directory ≡ areas disk.new session.new }
 {
     match directory {
-        Found::At(place) => {
+        Some(place) => {
             if o.listed {
                 take_files(disk, session, place, o, began);
             } else {
                 empty(disk, session, place);
             }
         }
-        Found::Nothing => add(disk, session, name),
+        None => add(disk, session, name),
     }
 }

@@ -6,28 +6,27 @@ ghost use Rattle.octets.specs.First.{count};
 ghost use Rattle.opening.specs.NamesLeft.{is_at, is_nothing, is_named, is_listed_alone, names_used, is_ninth};
 
 use layout::Session;
-use octets::Found;
 
-fn is_at(found: Found, place: usize) -> bool
+fn is_at(found: Option<usize>, place: usize) -> bool
     ensures { result ≡ is_at place found }
 {
     match found {
-        Found::At(at) => at == place,
-        Found::Nothing => false,
+        Some(at) => at == place,
+        None => false,
     }
 }
 
-pub fn is_nothing(found: Found) -> bool
+pub fn is_nothing(found: Option<usize>) -> bool
     ensures { result ≡ is_nothing found }
 {
     match found {
-        Found::At(_) => false,
-        Found::Nothing => true,
+        Some(_) => false,
+        None => true,
     }
 }
 
 // Whether a tape that is listed has no directory.
-pub fn is_gone(listed: bool, directory: Found) -> bool
+pub fn is_gone(listed: bool, directory: Option<usize>) -> bool
     ensures { result ≡ (listed && is_nothing directory) }
 {
     if listed {
@@ -80,13 +79,9 @@ fn count_directories(disk: &[u8]) -> usize
     ensures { result ≡ count (is_named disk.now directories) 8 0 }
 {
     let mut found = 0;
-    let mut i = 0;
-    while i < 8 {
+    for i in 0..8 {
         if is_directory(disk, i) {
             found += 1;
-            i += 1;
-        } else {
-            i += 1;
         }
     }
     found
@@ -97,13 +92,9 @@ fn count_listed_alone(disk: &[u8], session: &[u8]) -> usize
     ensures { result ≡ count (is_listed_alone disk.now session.now) 8 0 }
 {
     let mut found = 0;
-    let mut i = 0;
-    while i < 8 {
+    for i in 0..8 {
         if is_listed_alone(disk, session, i) {
             found += 1;
-            i += 1;
-        } else {
-            i += 1;
         }
     }
     found
@@ -120,7 +111,7 @@ fn names_used(disk: &[u8], session: &[u8]) -> usize
 
 // Whether a name is one too many: it is not listed, its directory is not there, and there are eight names,
 // or (damaged memory) no directory place is free.
-pub fn is_ninth(disk: &[u8], session: &[u8], listed: bool, directory: Found) -> bool
+pub fn is_ninth(disk: &[u8], session: &[u8], listed: bool, directory: Option<usize>) -> bool
     requires { Sound disk.now × Begun session.now }
     ensures { result ≡ is_ninth disk.now session.now listed directory }
 {

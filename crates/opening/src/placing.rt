@@ -1,6 +1,5 @@
 // The tape's row, once nothing is left to be refused.
 ghost use Rattle.std.specs.Prelude.{◌≡◌, true, ℕ, ◌≤◌, ◌<◌, ◌^◌, ◌+◌, length, take};
-ghost use Rattle.octets.specs.declared.Found.TheVariants.{At};
 ghost use Rattle.answers.specs.Outcome.{outcome};
 ghost use Rattle.layout.specs.Disk.{Sound};
 ghost use Rattle.layout.specs.Session.{session_bytes};
@@ -10,9 +9,8 @@ ghost use Rattle.opening.specs.Calls.{cached_from, cached_count, can_fill, cache
 
 use crate::directory::ready;
 use crate::shape::Opening;
-use answers::Answer;
+use answers::Refusal;
 use layout::Session;
-use octets::Found;
 use session::{Handle, Head, Staged};
 
 // The index of the first byte that the cache is filled with.
@@ -79,11 +77,11 @@ fn open_with(
     session: &mut [u8],
     name: &[u8],
     o: Opening,
-    directory: Found,
+    directory: Option<usize>,
     tape: usize,
     src: &[u8],
-) -> Answer
-    requires { ((Sound disk.old × (session_bytes ≤ length session.old)) × ((tape < 8) × ((place : ℕ) → directory ≡ At place → place < 8))) × (((length name.now ≤ 24) × (0 < o.file_size)) × ((length src.now ≤ 4096) × ((head_of session.old).last_handle + 1 < 2 ^ 64))) }
+) -> Result<u64, Refusal>
+    requires { ((Sound disk.old × (session_bytes ≤ length session.old)) × ((tape < 8) × ((place : ℕ) → directory ≡ Some place → place < 8))) × (((length name.now ≤ 24) × (0 < o.file_size)) × ((length src.now ≤ 4096) × ((head_of session.old).last_handle + 1 < 2 ^ 64))) }
     ensures { open_with disk.old session.old name.now o directory tape src.now ≡ outcome result disk.new session.new }
 {
     let writer = session::get_transaction(session, Session::WRITER);
@@ -92,7 +90,7 @@ fn open_with(
     ready(disk, session, name, o, writer.epoch, directory);
     session::put_tape_name(session, tape, name);
     put_row(session, tape, o, src);
-    Answer::Done(number)
+    Ok(number)
 }
 
 // The first bytes of out become those that the cache is filled with.
@@ -120,10 +118,10 @@ pub fn open_now(
     session: &mut [u8],
     name: &[u8],
     o: Opening,
-    directory: Found,
+    directory: Option<usize>,
     tape: usize,
-) -> Answer
-    requires { ((Sound disk.old × (session_bytes ≤ length session.old)) × ((tape < 8) × ((place : ℕ) → directory ≡ At place → place < 8))) × (((length name.now ≤ 24) × ((0 < o.file_size) × (o.file_size ≤ 4096))) × ((o.cache ≤ 4096) × ((can_fill disk.old session.old name.now o ≡ true) × ((head_of session.old).last_handle + 1 < 2 ^ 64)))) }
+) -> Result<u64, Refusal>
+    requires { ((Sound disk.old × (session_bytes ≤ length session.old)) × ((tape < 8) × ((place : ℕ) → directory ≡ Some place → place < 8))) × (((length name.now ≤ 24) × ((0 < o.file_size) × (o.file_size ≤ 4096))) × ((o.cache ≤ 4096) × ((can_fill disk.old session.old name.now o ≡ true) × ((head_of session.old).last_handle + 1 < 2 ^ 64)))) }
     ensures { open_now disk.old session.old name.now o directory tape ≡ outcome result disk.new session.new }
 {
     let mut held = [0u8; Session::RING_BYTES];

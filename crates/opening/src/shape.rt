@@ -2,7 +2,7 @@
 ghost use Rattle.std.specs.Prelude.{◌≡◌, ◌<◌};
 ghost use Rattle.opening.specs.Shape.{opening_of, in_range, is_whole, shape_of};
 
-use answers::{Answer, Refusal};
+use answers::Refusal;
 use layout::Session;
 use session::View;
 
@@ -62,7 +62,7 @@ fn is_whole(o: Opening) -> bool
 }
 
 // Done where name and sizes are in range. Refused: 6, 8 (entry), 10, 8 (file), 7, 8 (cache).
-pub fn shape_of(name: &[u8], o: Opening) -> Answer
+pub fn shape_of(name: &[u8], o: Opening) -> Result<u64, Refusal>
     ensures { result ≡ shape_of name.now o }
 {
     if metadata::is_name(name) {
@@ -70,18 +70,18 @@ pub fn shape_of(name: &[u8], o: Opening) -> Answer
             if is_whole(o) {
                 if in_range(o.file_size, Session::MOST_FILE) {
                     if octets::same_bytes(name, b"metadata") {
-                        return Answer::Refused(Refusal::ReservedName);
+                        return Err(Refusal::ReservedName);
                     }
                     if in_range(o.cache, Session::RING_BYTES as u64) {
-                        return Answer::Done(0);
+                        return Ok(0);
                     }
-                    return Answer::Refused(Refusal::BadSize);
+                    return Err(Refusal::BadSize);
                 }
-                return Answer::Refused(Refusal::BadSize);
+                return Err(Refusal::BadSize);
             }
-            return Answer::Refused(Refusal::NotWhole);
+            return Err(Refusal::NotWhole);
         }
-        return Answer::Refused(Refusal::BadSize);
+        return Err(Refusal::BadSize);
     }
-    Answer::Refused(Refusal::BadName)
+    Err(Refusal::BadName)
 }

@@ -1,10 +1,9 @@
 -- The told writer is the one in the writer's place, and its commit is served, as long as epochs remain: with what else holds (`Furnished.antt`) all that a
 -- commit checks is so. Assumes nothing.
-use Rattle.std.specs.Prelude.{◌≡◌, refl, ◌≢◌, Bool, true, false, List, [], ◌∷◌, ℕ, ◌+◌, ◌<◌, length}
+use Rattle.std.specs.Prelude.{◌≡◌, refl, ◌≢◌, Bool, true, false, List, [], ◌∷◌, ℕ, ◌+◌, ◌<◌, length, Ok}
 use Rattle.std.proofs.Common.{sym, ap, ◌∙◌, subst, true≢false, arith, eqb-true, le-ltb}
 use Rattle.std.proofs.lemmas.Bool.{false≢true}
 use Rattle.answers.specs.Answers.{code_of, value_of}
-use Rattle.answers.specs.declared.Answer.TheVariants.{Done}
 use Rattle.layout.specs.Disk.{slots}
 use Rattle.disk.specs.Steps.{files}
 use Rattle.session.specs.Rows.{head_of, transaction_of}
@@ -57,17 +56,17 @@ module _ (d s : List ℕ) (K : Lore) (r : Running (areas d s) K) (f : Furnished 
   each [] long = absurd (omega arith)
   each (x ∷ n) long = let h = r.holds (x ∷ n) (letters x n) in (h.good, h.seen)
 
-  append-commits : (t : ℕ) → writes s t ≡ true → (commit_call d s t).answer ≡ Done ((head_of s).epoch + 1)
+  append-commits : (t : ℕ) → writes s t ≡ true → (commit_call d s t).answer ≡ Ok ((head_of s).epoch + 1)
   unfolding no_room
   append-commits t w =
       commit-append-serves d s t r.orderly f.proper more w (le-ltb (slots d) (files d + lacking_all d s 8 0 8 0) (f.roomy (ap is_append (writes-kind s t w))))
       (append-bounded d s r.orderly (λ n. (K n).tape) physical each t w)
 
-  truncate-commits : (t : ℕ) → cuts s t ≡ true → (commit_call d s t).answer ≡ Done ((head_of s).epoch + 1)
+  truncate-commits : (t : ℕ) → cuts s t ≡ true → (commit_call d s t).answer ≡ Ok ((head_of s).epoch + 1)
   truncate-commits t c = commit-truncate-serves d s t r.orderly f.proper more c (truncate-bounded d s r.orderly (λ n. (K n).tape) physical each t c)
 
   -- with the number that is told
-  told-commits : (t : ℕ) (n : List ℕ) (long : 0 < length n) (w : Staging) → (K n).tape.writer ≡ w → is_writer t w ≡ true → (commit_call d s t).answer ≡ Done ((head_of s).epoch + 1)
+  told-commits : (t : ℕ) (n : List ℕ) (long : 0 < length n) (w : Staging) → (K n).tape.writer ≡ w → is_writer t w ≡ true → (commit_call d s t).answer ≡ Ok ((head_of s).epoch + 1)
   told-commits t n long idle e own = absurd (false≢true own)
   told-commits t n long (appending m h c st) e own =
       append-commits t

@@ -1,12 +1,9 @@
 -- What is answered where there is no entry, of a read of one and of a pop; and the length and the start of a tape, in entries. Assumes nothing.
-use Rattle.std.specs.Prelude.{◌≡◌, refl, ◌≢◌, ◌⊎◌, true, List, [], ℕ, ◌*◌, ◌/◌, ◌-◌, ◌<◌, length}
+use Rattle.std.specs.Prelude.{◌≡◌, refl, ◌≢◌, ◌⊎◌, true, List, [], ℕ, ◌*◌, ◌/◌, ◌-◌, ◌<◌, length, Some, None, Ok}
 use Rattle.std.proofs.Common.{sym, ◌∙◌, inl, inr, arith, eq-eqb}
 use Rattle.std.proofs.Math.Path.{ap}
-use Rattle.std.proofs.Math.Option.{some}
 use Rattle.octets.specs.Cases.{equal}
-use Rattle.octets.specs.declared.Found.TheVariants.{At}
 use Rattle.answers.specs.Outcome.{popping}
-use Rattle.answers.specs.declared.OneEntry.TheVariants.{NoEntry}
 use Rattle.layout.specs.Session.{entry_size_of}
 use Rattle.session.specs.Rows.{find_transaction}
 use Rattle.session.specs.declared.views.View.{View}
@@ -37,12 +34,12 @@ module _ (d s : List ℕ) (K : Lore) (r : Running (areas d s) K) (n : List ℕ) 
 
   open r.holds n long use {phys, good, seen, handled}
 
-  one-else : (i : ℕ) (buffer : List ℕ) (q : Page) → page t (K n).tape ≡ some q → q.here ≡ true → Beyond e i 1 q
+  one-else : (i : ℕ) (buffer : List ℕ) (q : Page) → page t (K n).tape ≡ Some q → q.here ≡ true → Beyond e i 1 q
       → step (read_entry t h i buffer) (areas d s) ≡ result 0 0xffff_ffff_ffff_ffff (areas d s) buffer
   unfolding step
   one-else i buffer q is here far = ap (of_entering (areas d s)) (none-outside d s t h i buffer (beyond-read d s K r n long given t i 1 buffer q is here far))
 
-  lengths-running : (q : Page) → page t (K n).tape ≡ some q → q.here ≡ true
+  lengths-running : (q : Page) → page t (K n).tape ≡ Some q → q.here ≡ true
       → (step (tape_len t h) (areas d s) ≡ result 0 (length q.content / e) (areas d s) []) × (step (tape_start t h) (areas d s) ≡ result 0 (q.start / e) (areas d s) [])
   unfolding step
   lengths-running q is here = (
@@ -66,9 +63,9 @@ module _ (d s : List ℕ) (K : Lore) (r : Running (areas d s) K) (n : List ℕ) 
 
     view : seen_by s 16 place ≡ view_p cut_page
     view =
-        let is : page t (K n).tape ≡ some cut_page = rw (writer, eq-eqb t t refl, listed) in
+        let is : page t (K n).tape ≡ Some cut_page = rw (writer, eq-eqb t t refl, listed) in
         let x = sight d s n r.orderly r.starts (K n).tape phys seen place at t cut_page is refl in
-        let there : find_transaction s t ≡ At 16 = find-transaction d s r.orderly t 16 (record { low = omega arith; opened = cuts-open s t cutter; number = cuts-as s t cutter }) in
+        let there : find_transaction s t ≡ Some 16 = find-transaction d s r.orderly t 16 (record { low = omega arith; opened = cuts-open s t cutter; number = cuts-as s t cutter }) in
         ap (λ (y : ℕ). seen_by s y place) (one_place (find_transaction s t) 16 x.place there x.found) ∙ x.view
 
     many : (seen_by s 16 place).len / entry_size_of s place ≡ length c / e
@@ -78,7 +75,7 @@ module _ (d s : List ℕ) (K : Lore) (r : Running (areas d s) K) (n : List ℕ) 
     low (inl z) one = absurd (one z)
     low (inr l) one = l
 
-    none-popped : (buffer : List ℕ) → (length c / e ≡ 0) ⊎ ((length c / e - 1) * e < (K n).tape.start) → pop_call d s t h buffer ≡ popping NoEntry s buffer
+    none-popped : (buffer : List ℕ) → (length c / e ≡ 0) ⊎ ((length c / e - 1) * e < (K n).tape.start) → pop_call d s t h buffer ≡ popping (Ok None) s buffer
     none-popped buffer why =
         let ok = orderly-usable d s r.orderly in
         let here : (seen_by s 16 place).listed ≡ true = ap (λ (v : View). v.listed) view in

@@ -1,12 +1,10 @@
 -- The other answers that are told: of a read of one entry, of a pop and of a put. Assumes nothing.
-use Rattle.std.specs.Prelude.{◌≡◌, refl, ◌≢◌, Bool, true, List, ◌++◌, ℕ, ◌+◌, ◌*◌, ◌/◌, ◌-◌, ◌≤◌, ◌<◌, take, drop}
+use Rattle.std.specs.Prelude.{◌≡◌, refl, ◌≢◌, Bool, true, List, ◌++◌, ℕ, ◌+◌, ◌*◌, ◌/◌, ◌-◌, ◌≤◌, ◌<◌, take, drop, Some, Ok, Err}
 use Rattle.std.proofs.Math.Path.{ap}
 use Rattle.std.proofs.Common.{◌∙◌, arith}
-use Rattle.std.proofs.Math.Option.{some}
 use Rattle.std.proofs.Math.Nat.{one-mul, add-mul, div-mul-le_self}
 use Rattle.std.proofs.Math.ListN.{length}
-use Rattle.answers.specs.declared.Answer.{Answer}
-use Rattle.answers.specs.declared.Answer.TheVariants.{Done, Refused}
+use Rattle.answers.specs.Answers.{Answer}
 use Rattle.answers.specs.Answers.{code_of, value_of}
 use Rattle.beginning.specs.Laws.{refusal-some}
 use Rattle.appending.specs.Calls.{put_call}
@@ -20,12 +18,12 @@ use Rattle.promises.proofs.Runs.{stands-last}
 use Rattle.promises.proofs.Reading.{front, with-handle}
 
 -- a served answer is its value
-done-value : (a : Answer) → code_of a ≡ 0 → a ≡ Done (value_of a)
-done-value (Done v) ok = refl
-done-value (Refused why) ok = absurd (refusal-some why ok)
+done-value : (a : Answer) → code_of a ≡ 0 → a ≡ Ok (value_of a)
+done-value (Ok v) ok = refl
+done-value (Err why) ok = absurd (refusal-some why ok)
 
 module _ (d s : List ℕ) (K : Lore) (r : Running (areas d s) K) (n : List ℕ) (long : 0 < length n) (handle : (K n).handle ≢ 0) (t : ℕ) where
-  one-running : (i : ℕ) (buffer : List ℕ) (q : Page) → page t (K n).tape ≡ some q → q.here ≡ true
+  one-running : (i : ℕ) (buffer : List ℕ) (q : Page) → page t (K n).tape ≡ Some q → q.here ≡ true
       → q.start ≤ i * (K n).entry → (i + 1) * (K n).entry ≤ length q.content → (K n).entry ≤ length buffer
       → step (read_entry t (K n).handle i buffer) (areas d s)
       ≡ result 0 i (areas d s) (take (K n).entry (drop (i * (K n).entry) q.content) ++ drop (K n).entry buffer)

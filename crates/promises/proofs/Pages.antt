@@ -1,14 +1,13 @@
 -- A page never changes: while a window is open, whatever is called, it is told the same of every tape, and reads the same bytes. By the induction of
 -- `StaysOpen.antt`. Assumes nothing.
-use Rattle.std.specs.Prelude.{◌≡◌, refl, ◌≢◌, Bool, true, false, List, [], ◌∷◌, ◌++◌, ℕ, ◌+◌, ◌*◌, ◌≤◌, ◌<◌, eqb, length, take, drop}
+use Rattle.octets.specs.Cases.{some-injective}
+use Rattle.std.proofs.lemmas.Option.{none-some}
+use Rattle.std.specs.Prelude.{◌≡◌, refl, ◌≢◌, Bool, true, false, List, [], ◌∷◌, ◌++◌, ℕ, ◌+◌, ◌*◌, ◌≤◌, ◌<◌, eqb, length, take, drop, Option, Some, None}
 use Rattle.std.proofs.Common.{sym, ◌∙◌, inl, add-mul, arith, ne_eqb, eqb-true, length-take, length-drop}
 use Rattle.std.proofs.Math.Path.{ap, subst}
 use Rattle.std.proofs.lemmas.Bool.{false≢true}
-use Rattle.std.proofs.Math.Option.{some, none-ne-some, some-injective}
 use Rattle.std.proofs.Math.Seq.{take-append_seam}
 use Rattle.octets.specs.Cases.{picked, decide}
-use Rattle.octets.specs.declared.Found.{Found}
-use Rattle.octets.specs.declared.Found.TheVariants.{At, Nothing}
 use Rattle.layout.specs.NamesLaws.{name-low}
 use Rattle.layout.specs.Session.{names_at}
 use Rattle.session.specs.declared.views.View.{View}
@@ -38,7 +37,7 @@ use Rattle.promises.proofs.StaysOpen.{lasts}
 
 record Shows (t : ℕ) (ws : List Window) : Type 0 where
   shows : Page
-  is : page_in t ws ≡ some shows
+  is : page_in t ws ≡ Some shows
 
 open-shows : (t : ℕ) (ws : List Window) → is_open t ws ≡ true → Shows t ws
 unfolding is_open page_in
@@ -48,16 +47,16 @@ open-shows t (w ∷ ws) e =
     (λ (h : eqb t w.number ≡ true). record { shows = page_w w; is = rw h })
     (λ (h : eqb t w.number ≡ false). let x = open-shows t ws (rw h at e) in record { shows = x.shows; is = rw h x.is })
 
-none-shown : (t : ℕ) (q : Page) → page_in t unknown.tape.windows ≡ some q → ⊥
+none-shown : (t : ℕ) (q : Page) → page_in t unknown.tape.windows ≡ Some q → ⊥
 unfolding unknown T.nothing page_in
-none-shown t q e = none-ne-some q e
+none-shown t q e = none-some q e
 
 writer-page : (t : ℕ) (tape : Told) (x : Staging) → is_writer t x ≡ false → page_of t tape x ≡ page_in t tape.windows
 writer-page t tape idle e = refl
 writer-page t tape (appending m h c s) e = rw e
 writer-page t tape (cutting m c) e = rw e
 
-module _ (a : Areas) (K : Lore) (r : Running a K) (n : List ℕ) (long : 0 < length n) (t : ℕ) (q : Page) (is : page_in t (K n).tape.windows ≡ some q) where
+module _ (a : Areas) (K : Lore) (r : Running a K) (n : List ℕ) (long : 0 < length n) (t : ℕ) (q : Page) (is : page_in t (K n).tape.windows ≡ Some q) where
   abbrev s : List ℕ
   s = a.session
 
@@ -89,7 +88,7 @@ module _ (a : Areas) (K : Lore) (r : Running a K) (n : List ℕ) (long : 0 < len
       absurd (omega (arith, p.low, same)))
       (λ e. e)
 
-  window-page : page t (K n).tape ≡ some q
+  window-page : page t (K n).tape ≡ Some q
   window-page = writer-page t (K n).tape (K n).tape.writer window-apart ∙ is
 
   -- what it sees is listed
@@ -99,9 +98,9 @@ module _ (a : Areas) (K : Lore) (r : Running a K) (n : List ℕ) (long : 0 < len
       let h = r.holds n long in
       sym (ap (λ (v : View). v.listed) h.seen.list) ∙ by p.place p.low p.opened (place_of s n) refl p.holds
     where
-      by : (x : ℕ) → x < 16 → is_open_at s x ≡ true → (found : Found) → place_of s n ≡ found → (view_in s x found).listed ≡ true → (view_in s 17 found).listed ≡ true
-      by x low opened (At p) e h = shown-keeps (view_of s 17 p) ∙ r.orderly.views x low opened p (name-low s names_at n p e) (sym (shown-keeps (view_of s x p)) ∙ h)
-      by x low opened Nothing e h = absurd (false≢true h)
+      by : (x : ℕ) → x < 16 → is_open_at s x ≡ true → (found : Option ℕ) → place_of s n ≡ found → (view_in s x found).listed ≡ true → (view_in s 17 found).listed ≡ true
+      by x low opened (Some p) e h = shown-keeps (view_of s 17 p) ∙ r.orderly.views x low opened p (name-low s names_at n p e) (sym (shown-keeps (view_of s x p)) ∙ h)
+      by x low opened None e h = absurd (false≢true h)
 
 -- ---- a window stays
 
@@ -150,7 +149,7 @@ concern-page t k v (calls c) l old = call-page t k v c l old
 
 module _ (t : ℕ) (n : List ℕ) (long : 0 < length n) (q : Page) where
   abbrev Watches : Known → Type 0
-  Watches k = page_in t k.tape.windows ≡ some q
+  Watches k = page_in t k.tape.windows ≡ Some q
 
   watches : KeptOpen t n Watches
   watches =
@@ -159,7 +158,7 @@ module _ (t : ℕ) (n : List ℕ) (long : 0 < length n) (q : Page) where
         keeps = λ a K r is v x l. concern-page t (K n) v x l (window-old a K r n long t q is) ∙ is;
       }
 
-  told-page : (a : Areas) (K : Lore) → Standing a K → Watches (K n) → page t (K n).tape ≡ some q
+  told-page : (a : Areas) (K : Lore) → Standing a K → Watches (K n) → page t (K n).tape ≡ Some q
   told-page a K (running r) is = window-page a K r n long t q is
   told-page a K (formatted f) is = absurd (none-shown t q (subst Watches (f.untold n long) is))
 
@@ -174,7 +173,7 @@ page-stands r f n long t opened stays =
 
 -- its page is here, and the tape keeps its handle and its entry size
 record Holding (t h e : ℕ) (q : Page) (k : Known) : Type 0 where
-  page-is : page_in t k.tape.windows ≡ some q
+  page-is : page_in t k.tape.windows ≡ Some q
   handle-is : k.handle ≡ h
   entry-is : k.entry ≡ e
 
@@ -213,7 +212,7 @@ reads-again r f n long t i count buffer later q opened stays handle at here low 
     let content = q.content in
     let x = open-shows t (known r n).tape.windows opened in
     let same : x.shows ≡ q = some-injective _ _ (sym (told-page t n long x.shows (ends r) (known r) (stands-last r) x.is) ∙ at) in
-    let first : Holding t h e q (known r n) = record { page-is = x.is ∙ ap some same; handle-is = refl; entry-is = refl } in
+    let first : Holding t h e q (known r n) = record { page-is = x.is ∙ ap Some same; handle-is = refl; entry-is = refl } in
     let then = lasts t n long (Holding t h e q) (holding t n long q h e handle here) f.calls (ends r) (known r) f.fit f.sizes (stands-last r) stays first in
     let inside : i * e + count * e ≤ length content = rw (add-mul i count e) at high in
     let part = take (count * e) (drop (i * e) content) in

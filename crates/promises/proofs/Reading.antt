@@ -1,7 +1,6 @@
 -- The promise's part (a). Assumes nothing.
-use Rattle.std.specs.Prelude.{◌≡◌, ◌≢◌, true, List, ◌++◌, ℕ, ◌+◌, ◌*◌, ◌≤◌, ◌<◌, length, take, drop}
+use Rattle.std.specs.Prelude.{◌≡◌, ◌≢◌, true, List, ◌++◌, ℕ, ◌+◌, ◌*◌, ◌≤◌, ◌<◌, length, take, drop, Some}
 use Rattle.std.proofs.Common.{ap, ◌∙◌, add-mul, arith, length-take, length-drop}
-use Rattle.std.proofs.Math.Option.{some}
 use Rattle.octets.specs.Bytes.{put, put_front}
 use Rattle.rolling_tape.specs.Removal.{Areas, areas}
 use Rattle.lives.specs.Told.{Page, page}
@@ -28,7 +27,7 @@ with-handle a K n long handle (running r) = r
 with-handle a K n long handle (formatted f) = no-handle a K n f long handle
 
 pub read-running : (d s : List ℕ) (K : Lore) → Running (areas d s) K → (n : List ℕ) → 0 < length n → (t i count : ℕ) (buffer : List ℕ) (q : Page)
-    → (K n).handle ≢ 0 → page t (K n).tape ≡ some q → q.here ≡ true → q.start ≤ i * (K n).entry → (i + count) * (K n).entry ≤ length q.content → count * (K n).entry ≤ length buffer
+    → (K n).handle ≢ 0 → page t (K n).tape ≡ Some q → q.here ≡ true → q.start ≤ i * (K n).entry → (i + count) * (K n).entry ≤ length q.content → count * (K n).entry ≤ length buffer
     → step (read_entries t (K n).handle i count buffer) (areas d s)
     ≡ result 0 count (areas d s) (take (count * (K n).entry) (drop (i * (K n).entry) q.content) ++ drop (count * (K n).entry) buffer)
 unfolding step

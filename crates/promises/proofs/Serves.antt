@@ -1,14 +1,11 @@
 -- What is served as told, whatever was called before: a put finds its directory, an open transaction is dropped, and a listed tape that has no handle is opened.
 -- Assumes nothing.
-use Rattle.std.specs.Prelude.{◌≡◌, refl, ◌≢◌, true, false, List, ℕ, eqb}
+use Rattle.std.proofs.lemmas.Option.{none-some}
+use Rattle.std.specs.Prelude.{◌≡◌, refl, ◌≢◌, true, false, List, ℕ, eqb, Option, Some, None, Ok, Err}
 use Rattle.std.proofs.Common.{sym, ap, ◌∙◌, true≢false, arith, eq-eqb, eqb-true}
-use Rattle.std.proofs.Math.Option.{Option, none, some, none-ne-some}
 use Rattle.octets.specs.Cases.{picked}
-use Rattle.octets.specs.declared.Found.{Found}
-use Rattle.octets.specs.declared.Found.TheVariants.{At, Nothing}
 use Rattle.answers.specs.Answers.{code_of, refusal_number}
-use Rattle.answers.specs.declared.Answer.{Answer}
-use Rattle.answers.specs.declared.Answer.TheVariants.{Done, Refused}
+use Rattle.answers.specs.Answers.{Answer}
 use Rattle.answers.specs.declared.Refusal.{Refusal}
 use Rattle.answers.specs.declared.Refusal.TheVariants.{Unusable, Unknown, WriterOpen, Wait, Full, BadName, ReservedName, BadSize, AlreadyOpen, NotWhole, Absent, OutOfBounds, StartPastLength, LongerCut, NoSlot, Missing, BadList, TooLarge}
 use Rattle.layout.specs.Session.{handle_number}
@@ -57,9 +54,9 @@ missing-refusal Missing e = refl
 missing-refusal BadList e = absurd (omega arith)
 missing-refusal TooLarge e = absurd (omega arith)
 
-missing-answer : (a : Answer) → code_of a ≡ 16 → a ≡ Refused Missing
-missing-answer (Done v) e = absurd (omega arith)
-missing-answer (Refused why) e = ap Refused (missing-refusal why e)
+missing-answer : (a : Answer) → code_of a ≡ 16 → a ≡ Err Missing
+missing-answer (Ok v) e = absurd (omega arith)
+missing-answer (Err why) e = ap Err (missing-refusal why e)
 
 pub puts-find : PutsFind
 unfolding step
@@ -73,10 +70,10 @@ puts-find r t h bs = by (stands-last r)
 
 module _ (d s n : List ℕ) (t : Told) (p : Phys) (seen : Seen d s n (build t p)) (o : Orderly d s) where
   -- who has a page is open
-  page-found : (k : ℕ) (q : Page) → page k t ≡ some q → HasPlace s k
+  page-found : (k : ℕ) (q : Page) → page k t ≡ Some q → HasPlace s k
   page-found k q is = by t.writer refl is
     where
-      window : page_in k t.windows ≡ some q → HasPlace s k
+      window : page_in k t.windows ≡ Some q → HasPlace s k
       window e =
           let a = open-some (is_number k) s (place_of s n) (omega (arith, seen.readers (is_number k), page-counted (is_number k) k q (λ w m shows. m) t.windows e)) in
           record {
@@ -90,17 +87,17 @@ module _ (d s n : List ℕ) (t : Told) (p : Phys) (seen : Seen d s n (build t p)
           let w = told-open d s n t p seen k t.writer refl own in
           record { place = 16; found = find-transaction d s o k 16 (record { low = omega arith; opened = w.0; number = w.1 }) }
 
-      by : (w : Staging) → t.writer ≡ w → page_of k t w ≡ some q → HasPlace s k
+      by : (w : Staging) → t.writer ≡ w → page_of k t w ≡ Some q → HasPlace s k
       by idle e = window
       by (appending m h c b) e =
-          picked (λ (x : Option Page). x ≡ some q → HasPlace s k) (eqb k m) (some (record { here = h; start = b; content = c })) (page_in k t.windows)
+          picked (λ (x : Option Page). x ≡ Some q → HasPlace s k) (eqb k m) (Some (record { here = h; start = b; content = c })) (page_in k t.windows)
           (λ same f. last (ap (is_writer k) e ∙ same)) (λ other f. window f)
       by (cutting m c) e =
-          picked (λ (x : Option Page). x ≡ some q → HasPlace s k) (eqb k m) (some (record { here = t.listed; start = t.start; content = c })) (page_in k t.windows)
+          picked (λ (x : Option Page). x ≡ Some q → HasPlace s k) (eqb k m) (Some (record { here = t.listed; start = t.start; content = c })) (page_in k t.windows)
           (λ same f. last (ap (is_writer k) e ∙ same)) (λ other f. window f)
 
 -- of a disk that was just formatted nobody has a page, and no tape is listed
-no-page : (t : ℕ) (k : Known) → k ≡ unknown → page t k.tape ≡ none
+no-page : (t : ℕ) (k : Known) → k ≡ unknown → page t k.tape ≡ None
 unfolding unknown nothing page_in
 no-page t k is = ap (λ (x : Known). page t x.tape) is
 
@@ -119,14 +116,14 @@ closes r n long t q is = by (stands-last r)
         let h = w.holds n long in
         let x = page-found d s n (P.known r n).tape h.phys h.seen w.orderly t q is in
         ap (λ (a : After). code_of a.answer) (drop-served d s t (orderly-usable d s w.orderly) x.place {u = drop_at d s x.place} x.found refl)
-    by (formatted f) = absurd (none-ne-some q (sym (no-page t (P.known r n) (f.untold n long)) ∙ is))
+    by (formatted f) = absurd (none-some q (sym (no-page t (P.known r n) (f.untold n long)) ∙ is))
 
 -- ---- an open
 
 -- a tape without a handle is not open
-asleep : (s : List ℕ) (f : Found) → handle_in s f ≡ 0 → is_open_tape s f ≡ false
-asleep s (At p) e = rw (eq-eqb (handle_number s p) 0 e)
-asleep s Nothing e = refl
+asleep : (s : List ℕ) (f : Option ℕ) → handle_in s f ≡ 0 → is_open_tape s f ≡ false
+asleep s (Some p) e = rw (eq-eqb (handle_number s p) 0 e)
+asleep s None e = refl
 
 pub reopens : Reopens
 unfolding step

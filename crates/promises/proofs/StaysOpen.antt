@@ -1,13 +1,11 @@
 -- Calls that leave a transaction open, for the tape of a name: what each of them keeps, all of them keep. Assumes nothing.
-use Rattle.std.specs.Prelude.{◌≡◌, refl, ◌≢◌, true, false, cond, ℕ, ◌+◌, ◌*◌, ◌<◌, eqb, length}
+use Rattle.std.specs.Prelude.{◌≡◌, refl, ◌≢◌, true, false, cond, ℕ, ◌+◌, ◌*◌, ◌<◌, eqb, length, Option, Some, None}
 use Rattle.std.proofs.Common.{sym, ap, ◌∙◌, true≢false, arith, eqb-true}
 use Rattle.std.proofs.Math.Path.{subst}
 use Rattle.std.proofs.lemmas.Bool.{false≢true, not-true}
 use mathlib.Core.List.{List, [], ◌∷◌}
 use Rattle.octets.specs.Cases.{picked, decide, equal}
 use Rattle.octets.specs.Compare.{same_bytes, same_true}
-use Rattle.octets.specs.declared.Found.{Found}
-use Rattle.octets.specs.declared.Found.TheVariants.{At, Nothing}
 use Rattle.answers.specs.Answers.{code_of, value_of}
 use Rattle.layout.specs.Session.{handle_number}
 use Rattle.rolling_tape.specs.Removal.{Areas, areas}
@@ -33,9 +31,9 @@ erased-idle epoch idle e = refl
 erased-idle epoch (appending m h c s) e = absurd (let z : ◌≡◌ {A = ℕ} 0 1 = cc in omega arith)
 erased-idle epoch (cutting m c) e = absurd (let z : ◌≡◌ {A = ℕ} 0 1 = cc in omega arith)
 
-shut-handle : (s : List ℕ) (tape : Found) → is_open_tape s tape ≡ false → handle_in s tape ≡ 0
-shut-handle s (At p) = λ e. decide (eqb (handle_number s p) 0) (λ z. eqb-true (handle_number s p) 0 z) (λ (z : eqb (handle_number s p) 0 ≡ false). absurd (true≢false (rw z at e)))
-shut-handle s Nothing = λ e. refl
+shut-handle : (s : List ℕ) (tape : Option ℕ) → is_open_tape s tape ≡ false → handle_in s tape ≡ 0
+shut-handle s (Some p) = λ e. decide (eqb (handle_number s p) 0) (λ z. eqb-true (handle_number s p) 0 z) (λ (z : eqb (handle_number s p) 0 ≡ false). absurd (true≢false (rw z at e)))
+shut-handle s None = λ e. refl
 
 module _ (d s : List ℕ) (K : Lore) (r : Running (areas d s) K) (n : List ℕ) (long : 0 < length n) where
   -- no writer is open

@@ -1,11 +1,9 @@
 -- Every call keeps what holds (`Standing.antt`): a refused one changes nothing and says nothing, a served one is one of those that follow. Assumes nothing.
-use Rattle.std.specs.Prelude.{◌≡◌, refl, ◌≢◌, List, ℕ}
+use Rattle.std.specs.Prelude.{◌≡◌, refl, ◌≢◌, List, ℕ, Some, Ok, Err}
 use Rattle.std.proofs.Common.{sym, ap, ◌∙◌, arith, eq-eqb, ne_eqb}
 use Rattle.octets.specs.Cases.{equal}
-use Rattle.answers.specs.declared.Answer.{Answer}
-use Rattle.answers.specs.declared.Answer.TheVariants.{Refused}
-use Rattle.answers.specs.declared.OneEntry.{OneEntry}
-use Rattle.answers.specs.declared.OneEntry.TheVariants as One
+use Rattle.answers.specs.Answers.{Answer}
+use Rattle.answers.specs.Answers.{OneEntry}
 use Rattle.answers.specs.declared.Refusal.TheVariants.{Unusable}
 use Rattle.answers.specs.Answers.{code_of, entry_code_of}
 use Rattle.answers.specs.Outcome.{Outcome, Reading, Entering, Popping}
@@ -53,10 +51,10 @@ module _ (d s : List ℕ) (K : Lore) where
   served-running r (drop_transaction t) fits ok old = running (Dropped.drop-transaction-runs d s t K r ok (perform (drop_transaction t) d s).value)
 
   -- before a session was begun a format and a store alone are served
-  no_answer : {P : Type 0} (a : Answer) → code_of a ≡ 0 → a ≡ Refused Unusable → P
+  no_answer : {P : Type 0} (a : Answer) → code_of a ≡ 0 → a ≡ Err Unusable → P
   no_answer a ok e = absurd (let z : ◌≡◌ {A = ℕ} 0 1 = sym ok ∙ ap code_of e in omega arith)
 
-  no-entry : {P : Type 0} (a : OneEntry) → entry_code_of a ≡ 0 → a ≡ One.Refused Unusable → P
+  no-entry : {P : Type 0} (a : OneEntry) → entry_code_of a ≡ 0 → a ≡ Err Unusable → P
   no-entry a ok e = absurd (let z : ◌≡◌ {A = ℕ} 0 1 = sym ok ∙ ap entry_code_of e in omega arith)
 
   served-formatted : Formatted (areas d s) K → (c : Call) → (perform c d s).code ≡ 0 → Standing (perform c d s).areas (Then c)

@@ -1,15 +1,13 @@
 -- What is committed outlives the session: behind a `store` an append begins, the tape opens with its old file size, and every committed byte from the start on is read. Assumes
 -- nothing.
-use Rattle.std.specs.Prelude.{◌≡◌, refl, ◌≢◌, true, false, cond, List, [], ◌++◌, ℕ, ◌+◌, ◌-◌, ◌*◌, ◌/◌, ◌%◌, ◌^◌, ◌≤◌, ◌<◌, length, take, drop}
+use Rattle.std.specs.Prelude.{◌≡◌, refl, ◌≢◌, true, false, cond, List, [], ◌++◌, ℕ, ◌+◌, ◌-◌, ◌*◌, ◌/◌, ◌%◌, ◌^◌, ◌≤◌, ◌<◌, length, take, drop, Some, Ok}
 use Rattle.std.proofs.Common.{sym, ap, ◌∙◌, true≢false, add-mul, arith, eq-eqb, length-drop, take_all}
-use Rattle.std.proofs.Math.Option.{some}
 use Rattle.std.proofs.Math.Nat.{div-mul_cancel, dvd-sub, dvd_of_mod-eq-zero}
 use Rattle.octets.specs.Cases.{decide}
 use Rattle.octets.specs.Compare.{same_bytes, same_true, same_refl}
 use Rattle.octets.specs.Number.{Bytes}
 use Rattle.answers.specs.Answers.{code_of, value_of}
 use Rattle.answers.specs.Outcome.{Outcome}
-use Rattle.answers.specs.declared.Answer.TheVariants.{Done}
 use Rattle.session.specs.declared.transactions.Kind.TheVariants as Kind
 use Rattle.session.specs.Rows.{head_of}
 use Rattle.rolling_tape.specs.Removal.{Areas, areas}
@@ -58,7 +56,7 @@ begun-writes s u k b e = rw (b.own, eq-eqb ((head_of s).last_transaction + 1) k 
 
 -- the append's page of a tape that is listed, once it is open: what is committed
 page-then : (t : Told) (v x size cache start : ℕ) → v ≡ 1 → t.listed ≡ true
-    → page 1 (T.told_done (T.told_done (T.told_done t L.restart 0) L.append v) (L.open' 1 size cache start []) x) ≡ some (record { here = true; start = t.start; content = t.content })
+    → page 1 (T.told_done (T.told_done (T.told_done t L.restart 0) L.append v) (L.open' 1 size cache start []) x) ≡ Some (record { here = true; start = t.start; content = t.content })
 page-then t v x size cache start e listed = rw (e, listed)
 
 -- ---- all of a page read
@@ -74,7 +72,7 @@ module _ (d s : List ℕ) (K : Lore) (r : Running (areas d s) K) (n : List ℕ) 
   abbrev size : ℕ
   size = length c - start
 
-  read_whole : (K n).handle ≡ handle → handle ≢ 0 → (K n).entry ≡ entry → page t (K n).tape ≡ some (record { here = true; start = start; content = c })
+  read_whole : (K n).handle ≡ handle → handle ≢ 0 → (K n).entry ≡ entry → page t (K n).tape ≡ Some (record { here = true; start = start; content = c })
       → start ≤ length c → length c % entry ≡ 0 → start % entry ≡ 0 → size ≤ length buffer
       → step (read_entries t handle (start / entry) (size / entry) buffer) (areas d s) ≡ result 0 (size / entry) (areas d s) (drop start c ++ drop size buffer)
   read_whole is some-handle sized at bounded high low room =
@@ -93,8 +91,8 @@ module _ (d s : List ℕ) (K : Lore) (r : Running (areas d s) K) (n : List ℕ) 
   abbrev tape : Told
   tape = (K n).tape
 
-  stored_answer : (store_call d s).answer ≡ Done tape.epoch
-  stored_answer = store-serves d s r.orderly ∙ ap Done (r.holds n long).seen.epoch
+  stored_answer : (store_call d s).answer ≡ Ok tape.epoch
+  stored_answer = store-serves d s r.orderly ∙ ap Ok (r.holds n long).seen.epoch
 
   stored-code : code_of (store_call d s).answer ≡ 0
   stored-code = ap code_of stored_answer
@@ -108,7 +106,7 @@ module _ (d s : List ℕ) (K : Lore) (r : Running (areas d s) K) (n : List ℕ) 
   stored-running : Running (areas d u) stored_lore
   stored-running = store-runs d s stored-code K r
 
-  begun-answer : (append_call d u).answer ≡ Done 1
+  begun-answer : (append_call d u).answer ≡ Ok 1
   begun-answer = append-after-store d s r.orderly
 
   begun-code : code_of (append_call d u).answer ≡ 0
@@ -144,14 +142,14 @@ module _ (d s : List ℕ) (K : Lore) (r : Running (areas d s) K) (n : List ℕ) 
     abbrev opened : Outcome
     opened = open_call d w 1 n entry tape.size cache start
 
-    opened-answer : opened.answer ≡ Done 1
+    opened-answer : opened.answer ≡ Ok 1
     opened-answer =
         let h = begun-running.holds n long in
         open-serves d w n long begun-running.orderly
         (append-proper d u stored-running.orderly (store-proper d s r.orderly proper s stored-code))
         (begun_lore n).tape h.phys h.good h.seen refl listed small 1 entry cache start first-writes some-entry short-entry whole-content whole-start some-cache short-cache
         (λ e. omega (arith, no-handle-yet))
-        ∙ ap (λ (i : ℕ). Done (i + 1)) no-handle-yet
+        ∙ ap (λ (i : ℕ). Ok (i + 1)) no-handle-yet
 
     opened-code : code_of opened.answer ≡ 0
     opened-code = ap code_of opened-answer
@@ -184,7 +182,7 @@ module _ (d s : List ℕ) (K : Lore) (r : Running (areas d s) K) (n : List ℕ) 
       own-handle : own.handle ≡ 1
       own-handle = ap value_of opened-answer
 
-      own-page : page 1 own.tape ≡ some (record { here = true; start = tape.start; content = tape.content })
+      own-page : page 1 own.tape ≡ Some (record { here = true; start = tape.start; content = tape.content })
       own-page = page-then tape (value_of (append_call d u).answer) (value_of opened.answer) tape.size cache start begun-value listed
 
       bounded : tape.start ≤ length tape.content

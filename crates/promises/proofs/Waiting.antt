@@ -1,5 +1,5 @@
 -- The promise's part (b): an append that is told to wait waits for the windows that began before the last commit, a cut, and for no other. Assumes nothing.
-use Rattle.std.specs.Prelude.{◌≡◌, refl, ◌≢◌, Bool, ◌&&◌, ℕ, ◌+◌, ◌*◌, ◌≤◌, ◌<◌, eqb, length}
+use Rattle.std.specs.Prelude.{◌≡◌, refl, ◌≢◌, Bool, ◌&&◌, ℕ, ◌+◌, ◌*◌, ◌≤◌, ◌<◌, eqb, length, Ok, Err}
 use Rattle.std.proofs.Common.{sym, ◌∙◌, ⊎_elim, true≢false, arith}
 use Rattle.std.proofs.Math.Path.{ap}
 use Rattle.std.proofs.Math.Bool.{true, false, or-true}
@@ -10,8 +10,7 @@ use borrow.Author.Tests.{eqb-true, eq-eqb, le-ltb}
 use Rattle.std.proofs.Math.Dec.{ltb}
 use Rattle.octets.specs.Cases.{picked, decide, order, equal, and_l, and_r, and_both}
 use Rattle.octets.specs.Compare.{same_bytes}
-use Rattle.answers.specs.declared.Answer.{Answer}
-use Rattle.answers.specs.declared.Answer.TheVariants.{Done, Refused}
+use Rattle.answers.specs.Answers.{Answer}
 use Rattle.answers.specs.declared.Refusal.{Refusal}
 use Rattle.answers.specs.declared.Refusal.TheVariants.{Unusable, Unknown, WriterOpen, Wait, Full, BadName, ReservedName, BadSize, AlreadyOpen, NotWhole, Absent, OutOfBounds, StartPastLength, LongerCut, NoSlot, Missing, BadList, TooLarge}
 use Rattle.answers.specs.Answers.{code_of, value_of, refusal_number, refusal_value}
@@ -198,9 +197,9 @@ wait-refusal Missing e = absurd (omega arith)
 wait-refusal BadList e = absurd (omega arith)
 wait-refusal TooLarge e = absurd (omega arith)
 
-wait-answer : (x : Answer) → code_of x ≡ 4 → x ≡ Refused (Wait (value_of x))
-wait-answer (Done v) e = absurd (omega arith)
-wait-answer (Refused why) e = ap Refused (wait-refusal why e)
+wait-answer : (x : Answer) → code_of x ≡ 4 → x ≡ Err (Wait (value_of x))
+wait-answer (Ok v) e = absurd (omega arith)
+wait-answer (Err why) e = ap Err (wait-refusal why e)
 
 -- who is told to wait found no writer, and waits for some
 told_free : (t : Told) (x : L.Answer) (w : ℕ) → Asked t x → x ≡ L.Refused 4 w → (t.writer ≡ idle) × (0 < w)
@@ -228,7 +227,7 @@ module _ (a : Areas) (K : Lore) (r : Running a K) (n : List ℕ) (long : 0 < len
   wait-model : (w : ℕ) → (step append a).code ≡ 4 → (step append a).value ≡ w → (L.step L.append model).answer ≡ L.Refused 4 w
   unfolding step
   wait-model w code value =
-      wait-told a.disk a.session n model (r.holds n long).seen w (wait-answer (append_call a.disk a.session).answer code ∙ ap (λ (x : ℕ). Refused (Wait x)) value)
+      wait-told a.disk a.session n model (r.holds n long).seen w (wait-answer (append_call a.disk a.session).answer code ∙ ap (λ (x : ℕ). Err (Wait x)) value)
 
   served-model : (step append a).code ≡ 0 → (L.step L.append model).answer ≡ L.Done ((head_of a.session).last_transaction + 1)
   unfolding step
@@ -254,7 +253,7 @@ module _ (a : Areas) (K : Lore) (r : Running a K) (n : List ℕ) (long : 0 < len
       let cuts : (head_of s).cut ≡ true = seen.cut ∙ cut in
       order 0 (B.waits s)
       (λ more.
-      let e : (append_call d s).answer ≡ Refused (Wait (B.waits s)) = ap (λ (x : After). x.answer) (Ways.append-waits d s ok shut cuts more) in
+      let e : (append_call d s).answer ≡ Err (Wait (B.waits s)) = ap (λ (x : After). x.answer) (Ways.append-waits d s ok shut cuts more) in
       let z = told-wait (K n).tape _ (B.waits s) answered (wait-told d s n model seen (B.waits s) e) in
       (ap code_of e, ap value_of e ∙ z.1))
       (λ none-waited.

@@ -2,7 +2,7 @@
 -- its answer in document 01's numbers. Assumes nothing.
 use Rattle.std.specs.Prelude.{List, [], ◌∷◌, ℕ, ◌^◌, ◌<◌}
 use Rattle.octets.specs.Number.{Bytes}
-use Rattle.answers.specs.declared.Answer.{Answer}
+use Rattle.answers.specs.Answers.{Answer}
 use Rattle.answers.specs.Answers.{code_of, value_of, entry_code_of, entry_value_of}
 use Rattle.answers.specs.Outcome.{Outcome, Reading, Entering, Popping}
 use Rattle.rolling_tape.specs.Removal.{Areas, areas}

@@ -1,9 +1,8 @@
 -- A transaction dropped, in a running session: a reader, a truncate or an append. Assumes nothing.
-use Rattle.std.specs.Prelude.{◌≡◌, refl, ◌⊎◌, Bool, true, false, cond, List, ℕ, ◌<◌, eqb, length}
+use Rattle.std.specs.Prelude.{◌≡◌, refl, ◌⊎◌, Bool, true, false, cond, List, ℕ, ◌<◌, eqb, length, Some}
 use Rattle.std.proofs.Common.{sym, ◌∙◌, inl, inr, true≢false, arith, eqb-true}
 use Rattle.std.proofs.Math.Path.{ap}
 use Rattle.octets.specs.Cases.{picked, order}
-use Rattle.octets.specs.declared.Found.TheVariants.{At}
 use Rattle.answers.specs.Answers.{code_of}
 use Rattle.session.specs.MeaningLaws.{is_open}
 use Rattle.session.specs.declared.transactions.Kind.{Kind}
@@ -87,7 +86,7 @@ module _ (d s : List ℕ) (k : ℕ) (K : Lore) (r : Running (areas d s) K) (serv
   finds =
       drop-cases (λ (a : After). code_of a.answer ≡ 0 → HasPlace s k) d s k (λ why e. absurd (refusal-some why e)) (λ t ok found e. record { place = t; found = found }) served
 
-  of_reader : (t : ℕ) → find_transaction s k ≡ At t → t < 16 → Dropped d s u k
+  of_reader : (t : ℕ) → find_transaction s k ≡ Some t → t < 16 → Dropped d s u k
   of_reader t found low =
       let o = r.orderly in
       record {
@@ -98,7 +97,7 @@ module _ (d s : List ℕ) (k : ℕ) (K : Lore) (r : Running (areas d s) K) (serv
         handled = λ n long x p seen handle entry h. inl (drop-reader-handled d s o k t found low n handle entry h);
       }
 
-  of-truncate : find_transaction s k ≡ At 16 → (transaction_of s 16).kind ≡ Kinds.Truncate → Dropped d s u k
+  of-truncate : find_transaction s k ≡ Some 16 → (transaction_of s 16).kind ≡ Kinds.Truncate → Dropped d s u k
   of-truncate found kind =
       let o = r.orderly in
       record {
@@ -109,7 +108,7 @@ module _ (d s : List ℕ) (k : ℕ) (K : Lore) (r : Running (areas d s) K) (serv
         handled = λ n long x p seen handle entry h. inl (drop-truncate-handled d s o k found kind n handle entry h);
       }
 
-  of-append : find_transaction s k ≡ At 16 → (transaction_of s 16).kind ≡ Kinds.Append → Dropped d s u k
+  of-append : find_transaction s k ≡ Some 16 → (transaction_of s 16).kind ≡ Kinds.Append → Dropped d s u k
   of-append found kind =
       let o = r.orderly in
       record {
@@ -121,20 +120,20 @@ module _ (d s : List ℕ) (k : ℕ) (K : Lore) (r : Running (areas d s) K) (serv
       }
 
   -- the writer's place has an append or a truncate, if it is open
-  of-writer : find_transaction s k ≡ At 16 → (x : Kind) → (transaction_of s 16).kind ≡ x → Dropped d s u k
+  of-writer : find_transaction s k ≡ Some 16 → (x : Kind) → (transaction_of s 16).kind ≡ x → Dropped d s u k
   unfolding transaction_of
   of-writer found Kinds.Closed kind = absurd (true≢false (sym (found-transaction s k 16 found).opened ∙ open-kind s 16 ∙ ap is_open kind))
   of-writer found Kinds.Reader kind = absurd (r.orderly.session.writer-apart (reader-word (kind_word s 16) kind))
   of-writer found Kinds.Append kind = of-append found kind
   of-writer found Kinds.Truncate kind = of-truncate found kind
 
-  of-place : (t : ℕ) → find_transaction s k ≡ At t → Dropped d s u k
+  of-place : (t : ℕ) → find_transaction s k ≡ Some t → Dropped d s u k
   of-place t found =
       order t 16
       (λ (low : t < 16). of_reader t found low)
       (λ high.
       let at : t ≡ 16 = omega (arith, (found-transaction s k t found).low) in
-      of-writer (found ∙ ap At at) (transaction_of s 16).kind refl)
+      of-writer (found ∙ ap Some at) (transaction_of s 16).kind refl)
 
   pub drop-transaction-runs : (v : ℕ) → Running (areas d u) (λ n. tell_as (K n) v (calls (L.drop' k)))
   drop-transaction-runs v = dropped-runs d s u k v K r (of-place finds.place finds.found)

@@ -1,7 +1,6 @@
 -- What is told along small runs, by computation: document 01's worked example, and what is easily got wrong. The exchanges are written out, each call with its
 -- code and value; nothing here asks the store. Assumes nothing.
-use Rattle.std.specs.Prelude.{◌≡◌, refl, true, false, List, [], ◌∷◌, ◌++◌, ℕ, replicate}
-use Rattle.std.proofs.Math.Option.{Option, some}
+use Rattle.std.specs.Prelude.{◌≡◌, refl, true, false, List, [], ◌∷◌, ◌++◌, ℕ, replicate, Option, Some}
 use Rattle.octets.specs.Compare.{same_bytes}
 use Rattle.lives.specs.Told.{Window, Staging, idle, cutting, closed, Page, page, page_in, nothing, before}
 use Rattle.promises.specs.Calls.{Call, format, store, append, reader, truncate, open_tape, append_entries, shift_start, truncate_tape, drop_entries, pop_entry, read_entries, commit, drop_transaction, Exchange}
@@ -34,7 +33,7 @@ abbrev earlier : List Exchange → List Window
 earlier xs = before (tells xs).tape.epoch (tells xs).tape.windows
 
 abbrev whole : (start : ℕ) → List ℕ → Option Page
-whole start content = some (record { here = true; start = start; content = content })
+whole start content = Some (record { here = true; start = start; content = content })
 
 -- ---- runs
 
@@ -107,10 +106,10 @@ refusals =
 record Examples : Type 0 where
   -- the page that the reader 2 is told is 796573796573
   worked-page : page 2 (tell votes worked unknown).tape
-      ≡ some (record { here = true; start = 0; content = 0x79 ∷ 0x65 ∷ 0x73 ∷ 0x79 ∷ 0x65 ∷ 0x73 ∷ [] })
+      ≡ Some (record { here = true; start = 0; content = 0x79 ∷ 0x65 ∷ 0x73 ∷ 0x79 ∷ 0x65 ∷ 0x73 ∷ [] })
   worked-handle : (tell votes worked unknown).handle ≡ 1
   -- a tape of another name isn't there
-  worked-other : sees 2 worked ≡ some (record { here = false; start = 0; content = [] })
+  worked-other : sees 2 worked ≡ Some (record { here = false; start = 0; content = [] })
   -- a window and a cut: its page stands, and an append waits for it, not for one begun since
   cut-window : sees 2 cut_beside ≡ whole 0 ten
   cut_page : sees 4 (cut_beside ++ (ok reader 4 ∷ [])) ≡ whole 0 (0 ∷ 1 ∷ 2 ∷ 3 ∷ [])
@@ -134,7 +133,7 @@ record Examples : Type 0 where
   reopened-entry : (tells reopened).entry ≡ 2
   reopened-shifted : sees 1 (reopened ++ (ok (shift_start 1 1 2) 0 ∷ [])) ≡ whole 4 ten
   -- a window begun before the tape was made never sees it
-  before-page : sees 1 before_made ≡ some (record { here = false; start = 0; content = [] })
+  before-page : sees 1 before_made ≡ Some (record { here = false; start = 0; content = [] })
   before-listed : (tells before_made).tape.listed ≡ true
   -- a store in an append: what it staged is gone, what is committed stays, there is no handle
   store-within : tells (more ++ (ok store 1 ∷ []))

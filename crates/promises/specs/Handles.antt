@@ -1,11 +1,9 @@
 -- Calls on a handle, in a running session: the handle's tape follows, every other tape is as it was. Assumes nothing.
-use Rattle.std.specs.Prelude.{◌≡◌, refl, ◌≢◌, Bool, cond, not, List, ℕ, ◌*◌, ◌-◌, ◌/◌, eqb}
+use Rattle.std.specs.Prelude.{◌≡◌, refl, ◌≢◌, Bool, cond, not, List, ℕ, ◌*◌, ◌-◌, ◌/◌, eqb, Some, None, Ok, Err}
 use Rattle.std.proofs.Common.{sym, ap, ◌∙◌, subst, inl, true≢false, arith, eq-eqb, ne_eqb, eqb-true}
 use Rattle.octets.specs.Cases.{picked, and_both, and_r}
 use Rattle.octets.specs.Number.{Bytes}
-use Rattle.answers.specs.declared.OneEntry.{OneEntry}
-use Rattle.answers.specs.declared.OneEntry.TheVariants.{Entry, NoEntry}
-use Rattle.answers.specs.declared.OneEntry.TheVariants as One
+use Rattle.answers.specs.Answers.{OneEntry}
 use Rattle.answers.specs.Answers.{code_of, entry_code_of, entry_value_of}
 use Rattle.beginning.specs.Laws.{refusal-some}
 use Rattle.layout.specs.Names.{name}
@@ -127,7 +125,7 @@ module _ (d s : List ℕ) (t h : ℕ) (K : Lore) (r : Running (areas d s) K) whe
       })
 
   -- the last entry popped
-  popped-runs : (buffer : List ℕ) (i v : ℕ) → (pop_call d s t h buffer).answer ≡ Entry i
+  popped-runs : (buffer : List ℕ) (i v : ℕ) → (pop_call d s t h buffer).answer ≡ Ok (Some i)
       → Running (areas d (pop_call d s t h buffer).session) (λ n. tell_as (K n) v (if_ours (K n) h (L.cut t (entries_left (K n) 1 * (K n).entry))))
   popped-runs buffer i v served =
       let o = r.orderly in
@@ -154,11 +152,11 @@ module _ (d s : List ℕ) (t h : ℕ) (K : Lore) (r : Running (areas d s) K) whe
       by : (a : OneEntry) → (pop_call d s t h buffer).answer ≡ a → entry_code_of a ≡ 0
           → Running (areas d (pop_call d s t h buffer).session)
           (λ n. tell_as (K n) (entry_value_of a) (cond (eqb (entry_value_of a) 0xffff_ffff_ffff_ffff) apart (if_ours (K n) h (L.cut t (entries_left (K n) 1 * (K n).entry)))))
-      by (Entry i) e z =
+      by (Ok (Some i)) e z =
           subst (λ (b : Bool). Running (areas d (pop_call d s t h buffer).session) (λ n. tell_as (K n) i (cond b apart (if_ours (K n) h (L.cut t (entries_left (K n) 1 * (K n).entry))))))
           (sym (ne_eqb i 0xffff_ffff_ffff_ffff (λ q. omega (arith, pop-small d s t h buffer i e r.orderly)))) (popped-runs buffer i i e)
-      by NoEntry e z = subst (λ (u : List ℕ). Running (areas d u) K) (sym (pop-none d s t h buffer e).0) r
-      by (One.Refused why) e z = absurd (refusal-some why z)
+      by (Ok None) e z = subst (λ (u : List ℕ). Running (areas d u) K) (sym (pop-none d s t h buffer e).0) r
+      by (Err why) e z = absurd (refusal-some why z)
 
   -- the handle's own tape has to be in order too, for the others to be left alone
   pub put-runs : (bs : List ℕ) (v : ℕ) → Bytes bs → code_of (put_call d s t h bs).answer ≡ 0

@@ -1,11 +1,8 @@
 -- What ties the areas to what is told of the tape of a name, and how a call of `lives` that the areas follow takes it on. Assumes nothing.
-use Rattle.std.specs.Prelude.{◌≡◌, ◌≢◌, ◌⊎◌, Bool, false, cond, not, ◌&&◌, List, ℕ, ◌+◌, ◌-◌, max, eqb, ltb, leb, length}
+use Rattle.std.specs.Prelude.{◌≡◌, ◌≢◌, ◌⊎◌, Bool, false, cond, not, ◌&&◌, List, ℕ, ◌+◌, ◌-◌, max, eqb, ltb, leb, length, Option, Some, None}
 use Rattle.std.proofs.Math.Path.{refl}
 use Rattle.std.proofs.Common.{sym, ap, ◌∙◌, subst, inl, inr, arith, ne_eqb, eq-eqb}
-use Rattle.std.proofs.Math.Option.{Option, none, some}
 use Rattle.octets.specs.Cases.{picked, equal}
-use Rattle.octets.specs.declared.Found.{Found}
-use Rattle.octets.specs.declared.Found.TheVariants.{At, Nothing}
 use Rattle.rolling_tape.specs.Removal.{Areas}
 use Rattle.components.specs.Epochs.{older}
 use Rattle.held.specs.Held.{load}
@@ -64,8 +61,8 @@ module _ (st : Store) (w : ℕ) where
   last-truncate (L.cutting m l) = refused-done
 
   last-known : (began len start capacity first : ℕ) (memory : List ℕ) (x : Writer) (bs : Option (List ℕ)) → Last st.last (L.open_known st began len start capacity first memory x bs)
-  last-known began len start capacity first memory x none = refused-done
-  last-known began len start capacity first memory x (some bs) = λ d. refl
+  last-known began len start capacity first memory x None = refused-done
+  last-known began len start capacity first memory x (Some bs) = λ d. refl
 
   last-open : (k size c start : ℕ) (memory : List ℕ) (x : Writer) → Last st.last (L.step_open st k size c start memory x)
   last-open k size c start memory L.idle = refused-done
@@ -130,9 +127,9 @@ module _ (st : Store) (w : ℕ) where
 -- ---- the handle
 
 -- an open tape has a handle, and no other
-live-handle : (s : List ℕ) (tape : Found) → is_open_tape s tape ≡ not (eqb (handle_in s tape) 0)
-live-handle s (At p) = refl
-live-handle s Nothing = refl
+live-handle : (s : List ℕ) (tape : Option ℕ) → is_open_tape s tape ≡ not (eqb (handle_in s tape) 0)
+live-handle s (Some p) = refl
+live-handle s None = refl
 
 -- a handle is forgotten with its tape
 module _ (s n : List ℕ) (live : Bool) (old handle : ℕ) (is : handle_in s (place_of s n) ≡ handle) (lives : is_open_tape s (place_of s n) ≡ live) where

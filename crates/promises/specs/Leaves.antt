@@ -1,10 +1,7 @@
 -- A refused call leaves both areas and its buffer byte for byte, and its value is 0 but for a 4. Assumes nothing.
-use Rattle.std.specs.Prelude.{◌≡◌, refl, ◌≢◌, List, ℕ}
-use Rattle.answers.specs.declared.Answer.{Answer}
-use Rattle.answers.specs.declared.Answer.TheVariants.{Done, Refused}
-use Rattle.answers.specs.declared.OneEntry.{OneEntry}
-use Rattle.answers.specs.declared.OneEntry.TheVariants.{Entry, NoEntry}
-use Rattle.answers.specs.declared.OneEntry.TheVariants as One
+use Rattle.std.specs.Prelude.{◌≡◌, refl, ◌≢◌, List, ℕ, Some, None, Ok, Err}
+use Rattle.answers.specs.Answers.{Answer}
+use Rattle.answers.specs.Answers.{OneEntry}
 use Rattle.answers.specs.declared.Refusal.{Refusal}
 use Rattle.answers.specs.declared.Refusal.TheVariants.{Unusable, Unknown, WriterOpen, Wait, Full, BadName, ReservedName, BadSize, AlreadyOpen, NotWhole, Absent, OutOfBounds, StartPastLength, LongerCut, NoSlot, Missing, BadList, TooLarge}
 use Rattle.answers.specs.Answers.{refusal_number, refusal_value, code_of, value_of, entry_code_of, entry_value_of}
@@ -49,13 +46,13 @@ no-count BadList other = refl
 no-count TooLarge other = refl
 
 no_value : (a : Answer) → code_of a ≢ 0 → code_of a ≢ 4 → value_of a ≡ 0
-no_value (Done v) why other = absurd (why refl)
-no_value (Refused because) why other = no-count because other
+no_value (Ok v) why other = absurd (why refl)
+no_value (Err because) why other = no-count because other
 
 no-entry-value : (a : OneEntry) → entry_code_of a ≢ 0 → entry_code_of a ≢ 4 → entry_value_of a ≡ 0
-no-entry-value (Entry i) why other = absurd (why refl)
-no-entry-value NoEntry why other = absurd (why refl)
-no-entry-value (One.Refused because) why other = no-count because other
+no-entry-value (Ok (Some i)) why other = absurd (why refl)
+no-entry-value (Ok None) why other = absurd (why refl)
+no-entry-value (Err because) why other = no-count because other
 
 -- ---- of each call
 

@@ -1,5 +1,5 @@
 -- A tape opened in a running session: its own name, and every other. Assumes nothing.
-use Rattle.std.specs.Prelude.{◌≡◌, ◌≢◌, Bool, false, cond, List, ℕ, ◌^◌, ◌<◌, length}
+use Rattle.std.specs.Prelude.{◌≡◌, ◌≢◌, Bool, false, cond, List, ℕ, ◌^◌, ◌<◌, length, Option, Some, None}
 use Rattle.std.proofs.Math.Path.{refl, sym, ap}
 use Rattle.std.proofs.Common.{◌∙◌, subst, true≢false, arith, eq-eqb}
 use Rattle.std.proofs.Math.Bool.{true}
@@ -7,8 +7,6 @@ use Rattle.std.proofs.lemmas.Bool.{false≢true}
 use Rattle.octets.specs.Cases.{picked, decide}
 use Rattle.octets.specs.Compare.{same_bytes, same_true, same_refl}
 use Rattle.octets.specs.Number.{Bytes}
-use Rattle.octets.specs.declared.Found.{Found}
-use Rattle.octets.specs.declared.Found.TheVariants.{At, Nothing}
 use Rattle.answers.specs.Answers.{code_of, value_of}
 use Rattle.layout.specs.NamesLaws.{name-low}
 use Rattle.layout.specs.Session.{names_at}
@@ -37,13 +35,13 @@ module _ (d s n : List ℕ) (o : Orderly d s) (st : L.Store) (seen : Seen d s n 
   unfolding seen_by
   listed-staged = by (place_of s n) refl (ap (λ (v : View). v.listed) seen.list ∙ listed)
     where
-      by : (found : Found) → place_of s n ≡ found → (view_in s 17 found).listed ≡ true → (staged_in s found).listed ≡ true
-      by (At p) e here =
+      by : (found : Option ℕ) → place_of s n ≡ found → (view_in s 17 found).listed ≡ true → (staged_in s found).listed ≡ true
+      by (Some p) e here =
           shown-keeps (seen_by s 16 p)
           ∙ (picked (λ (v : View). v.listed ≡ true) (staged_of s p).touched (record { listed = true; len = (staged_of s p).len; start = (staged_of s p).start }) (view_of s 16 p)
           (λ t. refl)
           (λ t. ap (λ (v : View). v.listed) (o.writer-view going p (name-low s names_at n p e)) ∙ sym (shown-keeps (view_of s 17 p)) ∙ here))
-      by Nothing e here = absurd (false≢true here)
+      by None e here = absurd (false≢true here)
 
 -- a writer that is erased to an append is that append
 here-is : (epoch t : ℕ) (here : Bool) (began len start : ℕ) (w : Staging) → erase_w epoch w ≡ L.appending t began here len start → here ≡ true → is_here t w ≡ true

@@ -1,14 +1,13 @@
 -- Reads that are refused, in a running session: of a number that no open transaction has, of a tape that the transaction does not see, and outside of the bounds
 -- that it sees. Assumes nothing.
-use Rattle.std.specs.Prelude.{◌≡◌, refl, ◌≢◌, ◌⊎◌, Bool, true, false, not, ◌&&◌, List, [], ◌∷◌, map, eqb, length}
+use Rattle.octets.specs.Cases.{some-injective}
+use Rattle.std.proofs.lemmas.Option.{none-some}
+use Rattle.std.specs.Prelude.{◌≡◌, refl, ◌≢◌, ◌⊎◌, Bool, true, false, not, ◌&&◌, List, [], ◌∷◌, map, eqb, length, Option, Some, None}
 use Rattle.std.proofs.Common.{sym, ◌∙◌, subst, inl, inr, true≢false, add-mul, arith, eq-eqb, eqb-true}
 use Rattle.std.proofs.Math.Path.{ap}
-use Rattle.std.proofs.Math.Option.{Option, none, some, none-ne-some, some-injective}
 use Prim.Native.Nat.{ℕ, ◌+◌, ◌*◌, ◌<◌}
 use Rattle.std.proofs.lemmas.Bool.{not-true}
 use Rattle.octets.specs.Cases.{picked, order, and_l, and_r}
-use Rattle.octets.specs.declared.Found.{Found}
-use Rattle.octets.specs.declared.Found.TheVariants.{At, Nothing}
 use Rattle.answers.specs.Answers.{code_of}
 use Rattle.answers.specs.Outcome.{Reading, refused_read}
 use Rattle.answers.specs.declared.Refusal.TheVariants.{Unknown, Absent, OutOfBounds}
@@ -42,12 +41,12 @@ use Rattle.seen.specs.Transactions.{found-transaction, find-transaction}
 abbrev is_hidden : ℕ → Reader → Bool
 is_hidden k r = eqb k r.number && not r.here
 
-none-numbered : (k : ℕ) (ws : List Window) → page_in k ws ≡ none → count_in (is_number k) (map erase ws) ≡ 0
+none-numbered : (k : ℕ) (ws : List Window) → page_in k ws ≡ None → count_in (is_number k) (map erase ws) ≡ 0
 unfolding page_in
 none-numbered k [] = λ e. in-none (is_number k)
 none-numbered k (w ∷ ws) =
-    picked (λ (x : Option Page). x ≡ none → count_in (is_number k) (map erase (w ∷ ws)) ≡ 0) (eqb k w.number) (some (page_w w)) (page_in k ws)
-    (λ m e. absurd (none-ne-some _ (sym e)))
+    picked (λ (x : Option Page). x ≡ None → count_in (is_number k) (map erase (w ∷ ws)) ≡ 0) (eqb k w.number) (Some (page_w w)) (page_in k ws)
+    (λ m e. absurd (none-some _ (sym e)))
     (λ m e. in-miss (is_number k) (erase w) (map erase ws) m ∙ none-numbered k ws e)
 
 is_hidden_lem : (k : ℕ) (q : Page) → q.here ≡ false → (w : Window) → eqb k w.number ≡ true → page_w w ≡ q → is_hidden k (erase w) ≡ true
@@ -74,35 +73,35 @@ module _ (d s n : List ℕ) (o : Orderly d s) (t : Told) (p : Phys) (seen : Seen
   number-told : number_of (transaction_of s 16).number (erase_w t.epoch t.writer) ≡ (transaction_of s 16).number
   number-told = ap (number_of (transaction_of s 16).number) (sym seen.writer) ∙ writer-number (transaction_of s 16).kind (transaction_of s 16).number (transaction_of s 16).epoch _
 
-  no-window : (k : ℕ) → page k t ≡ none → page_in k t.windows ≡ none
+  no-window : (k : ℕ) → page k t ≡ None → page_in k t.windows ≡ None
   no-window k = by t.writer
     where
-      by : (w : Staging) → page_of k t w ≡ none → page_in k t.windows ≡ none
+      by : (w : Staging) → page_of k t w ≡ None → page_in k t.windows ≡ None
       by idle = λ e. e
       by (appending m h c b) =
-          picked (λ (x : Option Page). x ≡ none → page_in k t.windows ≡ none) (eqb k m) (some (record { here = h; start = b; content = c })) (page_in k t.windows)
-          (λ r e. absurd (none-ne-some _ (sym e))) (λ r e. e)
+          picked (λ (x : Option Page). x ≡ None → page_in k t.windows ≡ None) (eqb k m) (Some (record { here = h; start = b; content = c })) (page_in k t.windows)
+          (λ r e. absurd (none-some _ (sym e))) (λ r e. e)
       by (cutting m c) =
-          picked (λ (x : Option Page). x ≡ none → page_in k t.windows ≡ none) (eqb k m) (some (record { here = t.listed; start = t.start; content = c })) (page_in k t.windows)
-          (λ r e. absurd (none-ne-some _ (sym e))) (λ r e. e)
+          picked (λ (x : Option Page). x ≡ None → page_in k t.windows ≡ None) (eqb k m) (Some (record { here = t.listed; start = t.start; content = c })) (page_in k t.windows)
+          (λ r e. absurd (none-some _ (sym e))) (λ r e. e)
 
-  no-writer : (k : ℕ) → page k t ≡ none → is_open_at s 16 ≡ true → (transaction_of s 16).number ≢ k
+  no-writer : (k : ℕ) → page k t ≡ None → is_open_at s 16 ≡ true → (transaction_of s 16).number ≢ k
   no-writer k is opened own = by t.writer refl is
     where
       number : (w : Staging) → t.writer ≡ w → number_of (transaction_of s 16).number (erase_w t.epoch w) ≡ k
       number w e = ap (λ (x : Staging). number_of (transaction_of s 16).number (erase_w t.epoch x)) (sym e) ∙ number-told ∙ own
 
-      by : (w : Staging) → t.writer ≡ w → page_of k t w ≡ none → ⊥
+      by : (w : Staging) → t.writer ≡ w → page_of k t w ≡ None → ⊥
       by idle e = λ f. true≢false (sym opened ∙ idle-seen d s n (build t p) seen o.session (ap (erase_w t.epoch) e))
-      by (appending m h c b) e = rw (eq-eqb k m (sym (number (appending m h c b) e))) (λ f. none-ne-some _ (sym f))
-      by (cutting m c) e = rw (eq-eqb k m (sym (number (cutting m c) e))) (λ f. none-ne-some _ (sym f))
+      by (appending m h c b) e = rw (eq-eqb k m (sym (number (appending m h c b) e))) (λ f. none-some _ (sym f))
+      by (cutting m c) e = rw (eq-eqb k m (sym (number (cutting m c) e))) (λ f. none-some _ (sym f))
 
-  none_found : (k : ℕ) → page k t ≡ none → find_transaction s k ≡ Nothing
+  none_found : (k : ℕ) → page k t ≡ None → find_transaction s k ≡ None
   none_found k is = by (find_transaction s k) refl
     where
-      by : (found : Found) → find_transaction s k ≡ found → found ≡ Nothing
-      by Nothing e = refl
-      by (At x) e =
+      by : (found : Option ℕ) → find_transaction s k ≡ found → found ≡ None
+      by None e = refl
+      by (Some x) e =
           let a = found-transaction s k x e in
           order x 16
           (λ (low : x < 16).
@@ -115,15 +114,15 @@ module _ (d s n : List ℕ) (o : Orderly d s) (t : Told) (p : Phys) (seen : Seen
 -- transaction k is in a place and does not see tape p
 record Blind (s : List ℕ) (k p : ℕ) : Type 0 where
   place : ℕ
-  found : find_transaction s k ≡ At place
+  found : find_transaction s k ≡ Some place
   unlisted : (seen_by s place p).listed ≡ false
 
-module _ (d s n : List ℕ) (o : Orderly d s) (t : Told) (p : Phys) (seen : Seen d s n (build t p)) (a : ℕ) (at : place_of s n ≡ At a) where
-  window-blind : (k : ℕ) (q : Page) → page_in k t.windows ≡ some q → q.here ≡ false → Blind s k a
+module _ (d s n : List ℕ) (o : Orderly d s) (t : Told) (p : Phys) (seen : Seen d s n (build t p)) (a : ℕ) (at : place_of s n ≡ Some a) where
+  window-blind : (k : ℕ) (q : Page) → page_in k t.windows ≡ Some q → q.here ≡ false → Blind s k a
   window-blind k q is hidden =
       let found = open-some (is_hidden k) s (place_of s n) (omega (arith, seen.readers (is_hidden k), page-counted (is_hidden k) k q (is_hidden_lem k q hidden) t.windows is)) in
       let x = found.place in
-      let both : is_hidden k (reader_in s (At a) x) ≡ true = subst (λ (f : Found). is_hidden k (reader_in s f x) ≡ true) at found.holds in
+      let both : is_hidden k (reader_in s (Some a) x) ≡ true = subst (λ (f : Option ℕ). is_hidden k (reader_in s f x) ≡ true) at found.holds in
       let number : k ≡ (transaction_of s x).number = eqb-true k (transaction_of s x).number (and_l (eqb k (transaction_of s x).number) _ both) in
       let unseen : (shown (view_of s x a)).listed ≡ false = not-true _ (and_r (eqb k (transaction_of s x).number) _ both) in
       record {
@@ -133,22 +132,22 @@ module _ (d s n : List ℕ) (o : Orderly d s) (t : Told) (p : Phys) (seen : Seen
       }
 
   -- a writer sees every open tape
-  blind : Live t p → (k : ℕ) (q : Page) → page k t ≡ some q → q.here ≡ false → Blind s k a
+  blind : Live t p → (k : ℕ) (q : Page) → page k t ≡ Some q → q.here ≡ false → Blind s k a
   blind live k q is hidden = by t.writer refl is
     where
       seen_here : (b : Bool) → b ≡ true → q.here ≡ b → {P : Type 0} → P
       seen_here b is-here e = absurd (true≢false (sym is-here ∙ sym e ∙ hidden))
 
-      by : (w : Staging) → t.writer ≡ w → page_of k t w ≡ some q → Blind s k a
+      by : (w : Staging) → t.writer ≡ w → page_of k t w ≡ Some q → Blind s k a
       by idle e = λ f. window-blind k q f hidden
       by (appending m h c b) e =
-          picked (λ (x : Option Page). x ≡ some q → Blind s k a) (eqb k m) (some (record { here = h; start = b; content = c })) (page_in k t.windows)
+          picked (λ (x : Option Page). x ≡ Some q → Blind s k a) (eqb k m) (Some (record { here = h; start = b; content = c })) (page_in k t.windows)
           (λ r f.
           let staged = subst (Staged t.size p.touched p.held t.content t.start) e live.staged in
           seen_here h staged.present (ap (λ (x : Page). x.here) (sym (some-injective _ _ f))))
           (λ r f. window-blind k q f hidden)
       by (cutting m c) e =
-          picked (λ (x : Option Page). x ≡ some q → Blind s k a) (eqb k m) (some (record { here = t.listed; start = t.start; content = c })) (page_in k t.windows)
+          picked (λ (x : Option Page). x ≡ Some q → Blind s k a) (eqb k m) (Some (record { here = t.listed; start = t.start; content = c })) (page_in k t.windows)
           (λ r f. seen_here t.listed (live.shown (rw e)) (ap (λ (x : Page). x.here) (sym (some-injective _ _ f))))
           (λ r f. window-blind k q f hidden)
 
@@ -169,10 +168,10 @@ module _ (d s : List ℕ) (K : Lore) (r : Running (areas d s) K) (n : List ℕ) 
   ok : usable d s ≡ true
   ok = orderly-usable d s r.orderly
 
-  unknown-read : page t (K n).tape ≡ none → read_call d s t (K n).handle i count buffer ≡ refused_read Unknown buffer
+  unknown-read : page t (K n).tape ≡ None → read_call d s t (K n).handle i count buffer ≡ refused_read Unknown buffer
   unknown-read is = read-no-transaction d s t (K n).handle i count buffer ok (none_found d s n r.orderly (K n).tape phys seen t is)
 
-  module _ (q : Page) (is : page t (K n).tape ≡ some q) where
+  module _ (q : Page) (is : page t (K n).tape ≡ Some q) where
     absent-read : q.here ≡ false → read_call d s t (K n).handle i count buffer ≡ refused_read Absent buffer
     absent-read hidden =
         let x = blind d s n r.orderly (K n).tape phys seen place at (its-life (areas d s) K r n long given) t q is hidden in
@@ -188,8 +187,8 @@ module _ (d s : List ℕ) (K : Lore) (r : Running (areas d s) K) (n : List ℕ) 
   abbrev code : ℕ
   code = (step (read_entries t (K n).handle i count buffer) (areas d s)).code
 
-  pub else-running : (page t (K n).tape ≡ none → code ≡ 2)
-      × ((q : Page) → page t (K n).tape ≡ some q → (q.here ≡ false → code ≡ 11) × (q.here ≡ true → Beyond (K n).entry i count q → code ≡ 12))
+  pub else-running : (page t (K n).tape ≡ None → code ≡ 2)
+      × ((q : Page) → page t (K n).tape ≡ Some q → (q.here ≡ false → code ≡ 11) × (q.here ≡ true → Beyond (K n).entry i count q → code ≡ 12))
   unfolding step
   else-running =
       let codes : Reading → ℕ = λ x. code_of x.answer in (

@@ -1,8 +1,7 @@
 -- Demand 3: the statements. A reviewer reads this file first. It rests on `Calls.antt` (the calls, their steps, which are the definitions that the contracts
 -- cite, and a run of them), on `Told.antt` (what the calls' arguments and answers say of the tape of a name) and, for one tape, on `lives/specs/Told.antt`
 -- (Told, told, page, before). The proofs stand in `proofs/Theorems.antt`, and behind it in `ended`, `opened`, `seen`, `joins`, `lives` and `held`. Assumes nothing.
-use Rattle.std.specs.Prelude.{◌≡◌, Bool, true, false, not, ◌||◌, ◌≢◌, ◌⊎◌, ℕ, ◌+◌, ◌-◌, ◌*◌, ◌/◌, ◌%◌, ◌≤◌, ◌<◌, length, take, drop, eqb}
-use Rattle.std.proofs.Math.Option.{none, some}
+use Rattle.std.specs.Prelude.{◌≡◌, Bool, true, false, not, ◌||◌, ◌≢◌, ◌⊎◌, ℕ, ◌+◌, ◌-◌, ◌*◌, ◌/◌, ◌%◌, ◌≤◌, ◌<◌, length, take, drop, eqb, Some, None}
 use mathlib.Core.List.{List, [], ◌∷◌, ◌++◌, Memᴰ}
 use Rattle.octets.specs.Number.{Bytes}
 use Rattle.rolling_tape.specs.Removal.{Areas, areas}
@@ -59,7 +58,7 @@ module _ (r : Run) (f : Further r) where
 abbrev pub Reads : Type 0
 Reads = (r : Run) (n : List ℕ) → 0 < length n → (t i count : ℕ) (buffer : List ℕ) (q : Page)
     → (known r n).handle ≢ 0
-    → page t (known r n).tape ≡ some q → q.here ≡ true
+    → page t (known r n).tape ≡ Some q → q.here ≡ true
     → q.start ≤ i * (known r n).entry → (i + count) * (known r n).entry ≤ length q.content
     → count * (known r n).entry ≤ length buffer
     → step (read_entries t (known r n).handle i count buffer) (ends r)
@@ -154,7 +153,7 @@ CommitsServed = (r : Run) (n : List ℕ) → 0 < length n → (t : ℕ)
 abbrev pub ReadsOne : Type 0
 ReadsOne = (r : Run) (n : List ℕ) → 0 < length n → (t i : ℕ) (buffer : List ℕ) (q : Page)
     → (known r n).handle ≢ 0
-    → page t (known r n).tape ≡ some q → q.here ≡ true
+    → page t (known r n).tape ≡ Some q → q.here ≡ true
     → q.start ≤ i * (known r n).entry → (i + 1) * (known r n).entry ≤ length q.content
     → (known r n).entry ≤ length buffer
     → step (read_entry t (known r n).handle i buffer) (ends r)
@@ -184,8 +183,8 @@ PopsNone = (r : Run) (n : List ℕ) → 0 < length n → (t : ℕ) (c buffer : L
 abbrev pub ReadsElse : Type 0
 ReadsElse = (r : Run) (n : List ℕ) → 0 < length n → (t i count : ℕ) (buffer : List ℕ)
     → (known r n).handle ≢ 0
-    → (page t (known r n).tape ≡ none → (step (read_entries t (known r n).handle i count buffer) (ends r)).code ≡ 2)
-    × ((q : Page) → page t (known r n).tape ≡ some q
+    → (page t (known r n).tape ≡ None → (step (read_entries t (known r n).handle i count buffer) (ends r)).code ≡ 2)
+    × ((q : Page) → page t (known r n).tape ≡ Some q
     → (q.here ≡ false → (step (read_entries t (known r n).handle i count buffer) (ends r)).code ≡ 11)
     × (q.here ≡ true → (i * (known r n).entry < q.start) ⊎ (length q.content < (i + count) * (known r n).entry)
     → (step (read_entries t (known r n).handle i count buffer) (ends r)).code ≡ 12))
@@ -194,7 +193,7 @@ ReadsElse = (r : Run) (n : List ℕ) → 0 < length n → (t i count : ℕ) (buf
 abbrev pub ReadsOneElse : Type 0
 ReadsOneElse = (r : Run) (n : List ℕ) → 0 < length n → (t i : ℕ) (buffer : List ℕ) (q : Page)
     → (known r n).handle ≢ 0
-    → page t (known r n).tape ≡ some q → q.here ≡ true
+    → page t (known r n).tape ≡ Some q → q.here ≡ true
     → (i * (known r n).entry < q.start) ⊎ (length q.content < (i + 1) * (known r n).entry)
     → step (read_entry t (known r n).handle i buffer) (ends r) ≡ result 0 0xffff_ffff_ffff_ffff (ends r) buffer
 
@@ -202,7 +201,7 @@ ReadsOneElse = (r : Run) (n : List ℕ) → 0 < length n → (t i : ℕ) (buffer
 abbrev pub Lengths : Type 0
 Lengths = (r : Run) (n : List ℕ) → 0 < length n → (t : ℕ) (q : Page)
     → (known r n).handle ≢ 0
-    → page t (known r n).tape ≡ some q → q.here ≡ true
+    → page t (known r n).tape ≡ Some q → q.here ≡ true
     → (step (tape_len t (known r n).handle) (ends r) ≡ result 0 (length q.content / (known r n).entry) (ends r) [])
     × (step (tape_start t (known r n).handle) (ends r) ≡ result 0 (q.start / (known r n).entry) (ends r) [])
 
@@ -240,7 +239,7 @@ abbrev pub ReadsAgain : Type 0
 ReadsAgain = (r : Run) (f : Further r) (n : List ℕ) → 0 < length n → (t i count : ℕ) (buffer later : List ℕ) (q : Page)
     → is_open t (known r n).tape.windows ≡ true → AllServed (keeps_open t) (history f.calls (ends r))
     → (known r n).handle ≢ 0
-    → page t (known r n).tape ≡ some q → q.here ≡ true
+    → page t (known r n).tape ≡ Some q → q.here ≡ true
     → q.start ≤ i * (known r n).entry → (i + count) * (known r n).entry ≤ length q.content
     → count * (known r n).entry ≤ length buffer → count * (known r n).entry ≤ length later
     → step (read_entries t (known r n).handle i count later) (ends_then r f)
@@ -311,7 +310,7 @@ Reopens = (r : Run) (n : List ℕ) → 0 < length n → (t entry cache start : �
 -- an open transaction can be dropped
 abbrev pub Closes : Type 0
 Closes = (r : Run) (n : List ℕ) → 0 < length n → (t : ℕ) (q : Page)
-    → page t (known r n).tape ≡ some q → (step (drop_transaction t) (ends r)).code ≡ 0
+    → page t (known r n).tape ≡ Some q → (step (drop_transaction t) (ends r)).code ≡ 0
 
 -- ---- corollaries: a refused call, from any areas at all
 

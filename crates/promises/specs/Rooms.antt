@@ -1,15 +1,12 @@
 -- An open append has room for every file that its bytes lack (seen's `Roomy`), and every served call keeps that. What follows after any calls is in
 -- proofs/Rooms.antt. Assumes nothing.
-use Rattle.std.specs.Prelude.{◌≡◌, true, false, List, ℕ, ◌<◌}
+use Rattle.std.specs.Prelude.{◌≡◌, true, false, List, ℕ, ◌<◌, Some, None, Ok, Err}
 use Rattle.std.proofs.Math.Path.{refl, ap}
 use Rattle.std.proofs.Common.{sym, ◌∙◌, subst, true≢false, arith}
 use Rattle.std.proofs.lemmas.Bool.{false≢true}
 use Rattle.octets.specs.Cases.{decide, order}
 use Rattle.octets.specs.Number.{Bytes}
-use Rattle.octets.specs.declared.Found.TheVariants.{At}
-use Rattle.answers.specs.declared.OneEntry.{OneEntry}
-use Rattle.answers.specs.declared.OneEntry.TheVariants.{Entry, NoEntry}
-use Rattle.answers.specs.declared.OneEntry.TheVariants as One
+use Rattle.answers.specs.Answers.{OneEntry}
 use Rattle.answers.specs.Answers.{code_of, entry_code_of}
 use Rattle.layout.specs.Names.{name}
 use Rattle.layout.specs.Session.{names_at, entry_size_of, kind_word}
@@ -84,7 +81,7 @@ module _ (d s : List ℕ) (K : Lore) (r : Running (areas d s) K) where
     abbrev dropped : List ℕ
     dropped = (drop_transaction_call d s k).session
 
-    dropped-writer : find_transaction s k ≡ At 16 → (x : Kind) → (transaction_of s 16).kind ≡ x → Roomy d dropped
+    dropped-writer : find_transaction s k ≡ Some 16 → (x : Kind) → (transaction_of s 16).kind ≡ x → Roomy d dropped
     unfolding transaction_of
     dropped-writer found Kinds.Closed kind = absurd (true≢false (sym (found-transaction s k 16 found).opened ∙ open-kind s 16 ∙ ap is_open kind))
     dropped-writer found Kinds.Reader kind = absurd (o.session.writer-apart (reader-word (kind_word s 16) kind))
@@ -99,7 +96,7 @@ module _ (d s : List ℕ) (K : Lore) (r : Running (areas d s) K) where
         (λ (low : t < 16). drop-reader-roomy d s o k t found low roomy)
         (λ high.
         let at : t ≡ 16 = omega (arith, (found-transaction s k t found).low) in
-        dropped-writer (found ∙ ap At at) (transaction_of s 16).kind refl))
+        dropped-writer (found ∙ ap Some at) (transaction_of s 16).kind refl))
 
   -- ---- handles
 
@@ -113,9 +110,9 @@ module _ (d s : List ℕ) (K : Lore) (r : Running (areas d s) K) where
         put-roomy d s o t h bs bytes served n (entry_size_of s f.tape) (handle-handled d s o h f.tape at) (K n).tape p.phys p.good p.seen
 
     popped : (buffer : List ℕ) → Roomy d s → (a : OneEntry) → (pop_call d s t h buffer).answer ≡ a → entry_code_of a ≡ 0 → Roomy d (pop_call d s t h buffer).session
-    popped buffer roomy (Entry i) e z = cuts-roomy d s o t h _ (pop-to d s t h buffer i e)
-    popped buffer roomy NoEntry e z = subst (Roomy d) (sym (pop-none d s t h buffer e).0) roomy
-    popped buffer roomy (One.Refused why) e z = absurd (refusal-some why z)
+    popped buffer roomy (Ok (Some i)) e z = cuts-roomy d s o t h _ (pop-to d s t h buffer i e)
+    popped buffer roomy (Ok None) e z = subst (Roomy d) (sym (pop-none d s t h buffer e).0) roomy
+    popped buffer roomy (Err why) e z = absurd (refusal-some why z)
 
   -- ---- every call in a session
 

@@ -1,12 +1,9 @@
 -- Document 01, "The driver": the reply to a line, and what the areas then hold. "Its disk has 8 slots." Assumes nothing.
-use Rattle.std.specs.Prelude.{◌≡◌, cond, List, [], ℕ, ◌*◌, ◌≤◌, ltb, length, get_or, take}
+use Rattle.std.specs.Prelude.{◌≡◌, cond, List, [], ℕ, ◌*◌, ◌≤◌, ltb, length, get_or, take, Option, Some, None, Ok, Err}
 use Rattle.octets.specs.Bytes.{put}
-use Rattle.octets.specs.declared.Found.{Found}
-use Rattle.octets.specs.declared.Found.TheVariants.{At, Nothing}
 use Rattle.answers.specs.Answers.{code_of, value_of}
 use Rattle.answers.specs.Outcome.{Outcome, outcome, Reading}
-use Rattle.answers.specs.declared.Answer.{Answer}
-use Rattle.answers.specs.declared.Answer.TheVariants.{Done, Refused}
+use Rattle.answers.specs.Answers.{Answer}
 use Rattle.layout.specs.Session.{begun, entry_size_of}
 use Rattle.session.specs.Rows.{find_handle}
 use Rattle.beginning.specs.Calls.{append_call, reader_call, truncate_call}
@@ -58,10 +55,10 @@ made d s line (Open t e f c start) = open_call d s t (field_of line 2) e f c sta
 made d s line (Put t h) = put_call d s t h (hex_bytes (field_of line 3))
 made d s line (Shift t h i) = on_disk d (shift_call d s t h i)
 made d s line (Cut t h n) = on_disk d (cut_call d s t h n)
-made d s line (Read t h i n) = outcome (Done 0) d s
+made d s line (Read t h i n) = outcome (Ok 0) d s
 made d s line (Commit t) = commit_call d s t
 made d s line (Drop t) = on_disk d (drop_transaction_call d s t)
-made d s line Unreadable = outcome (Done 0) d s
+made d s line Unreadable = outcome (Ok 0) d s
 
 -- the bytes of a put are kept in the space
 unfoldable pub kept : List ℕ → List ℕ → Call → List ℕ
@@ -88,16 +85,16 @@ makes d s number line space call = told number (kept line space call) (made d s 
 
 -- ---- the read: "a read above 4,096 bytes (entries, if there is no such handle), is unreadable"
 
-abbrev pub entry_at : List ℕ → Found → ℕ
-entry_at s (At p) = entry_size_of s p
-entry_at s Nothing = 1
+abbrev pub entry_at : List ℕ → Option ℕ → ℕ
+entry_at s (Some p) = entry_size_of s p
+entry_at s None = 1
 
 unfoldable pub entry_for : List ℕ → ℕ → ℕ
 entry_for s h = cond (begun s) (entry_at s (find_handle s h)) 1
 
 abbrev pub shown : Answer → ℕ → List ℕ → List ℕ
-shown (Done v) n buffer = take n buffer
-shown (Refused why) n buffer = []
+shown (Ok v) n buffer = take n buffer
+shown (Err why) n buffer = []
 
 abbrev pub read_text : List ℕ → List ℕ → ℕ → ℕ → Reading → Replied
 read_text d s number n r =

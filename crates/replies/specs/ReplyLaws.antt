@@ -1,18 +1,16 @@
 -- Laws of replies: how long a reply's text, a line's field and a line that says something are at most, the reply by what the line says, that a read changes
 -- no area, and that the contract leaves nothing open. Assumes nothing.
-use Rattle.std.specs.Prelude.{◌≡◌, refl, Bool, true, false, List, [], ◌∷◌, ℕ, zero, suc, ◌+◌, ◌*◌, ◌/◌, ◌≤◌, ◌<◌, eqb, ltb, get_or, take}
+use Rattle.std.specs.Prelude.{◌≡◌, refl, Bool, true, false, List, [], ◌∷◌, ℕ, zero, suc, ◌+◌, ◌*◌, ◌/◌, ◌≤◌, ◌<◌, eqb, ltb, get_or, take, Some, None, Ok, Err}
 use Rattle.std.proofs.Common.{sym, ◌∙◌, true≢false, arith, ltb-false, lt-ltb, length-append, length-take}
 use Rattle.std.proofs.Math.Path.{ap}
 use Rattle.std.proofs.Math.ListN.{length}
 use Rattle.octets.specs.Cases.{picked, order}
 use Rattle.octets.specs.Bytes.{put, part-put}
-use Rattle.octets.specs.declared.Found.TheVariants.{At, Nothing}
 use Rattle.layout.specs.Session.{begun, entry_size_of}
 use Rattle.session.specs.Rows.{find_handle}
 use Rattle.answers.specs.Answers.{code_of, value_of}
 use Rattle.answers.specs.Outcome.{Outcome, outcome, Reading}
-use Rattle.answers.specs.declared.Answer.{Answer}
-use Rattle.answers.specs.declared.Answer.TheVariants.{Done, Refused}
+use Rattle.answers.specs.Answers.{Answer}
 use Rattle.entries.specs.Reads.{read_call}
 use Rattle.lines.specs.Fields.{in_front, fields}
 use Rattle.lines.specs.Hex.{hex_bytes}
@@ -39,8 +37,8 @@ unfolding unreadable_reply
 unreadable-length number = simp length-append (omega (arith, simp length-append at (length-tabbed number)))
 
 shown-length : (a : Answer) (n : ℕ) (buffer : List ℕ) → length (shown a n buffer) ≤ n
-shown-length (Done v) n buffer = rw length-take (omega arith)
-shown-length (Refused why) n buffer = omega arith
+shown-length (Ok v) n buffer = rw length-take (omega arith)
+shown-length (Err why) n buffer = omega arith
 
 text-length : (number n : ℕ) (r : Reading) → n ≤ 4096
     → length (reply_of number (code_of r.answer) (value_of r.answer) (shown r.answer n r.buffer)) ≤ 8260
@@ -101,11 +99,11 @@ module _ (s : List ℕ) (h : ℕ) where
   unfolding entry_for
   entry-none e = rw e
 
-  pub entry-unknown : begun s ≡ true → find_handle s h ≡ Nothing → entry_for s h ≡ 1
+  pub entry-unknown : begun s ≡ true → find_handle s h ≡ None → entry_for s h ≡ 1
   unfolding entry_for
   entry-unknown b e = rw (b, e)
 
-  pub entry_known : (p : ℕ) → begun s ≡ true → find_handle s h ≡ At p → entry_for s h ≡ entry_size_of s p
+  pub entry_known : (p : ℕ) → begun s ≡ true → find_handle s h ≡ Some p → entry_for s h ≡ entry_size_of s p
   unfolding entry_for
   entry_known p b e = rw (b, e)
 

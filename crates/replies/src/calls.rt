@@ -6,7 +6,7 @@ ghost use Rattle.appending.specs.Calls.{put_call};
 ghost use Rattle.lines.specs.Hex.{hex_bytes};
 ghost use Rattle.replies.specs.Replies.{made, kept};
 
-use answers::Answer;
+use answers::Refusal;
 use lines::Call;
 
 // The slots of the driver's disk.
@@ -20,7 +20,7 @@ fn append(
     handle: u64,
     hex: &[u8],
     space: &mut [u8],
-) -> Answer
+) -> Result<u64, Refusal>
     requires { length hex.now / 2 ≤ length space.old }
     ensures { (put_call disk.old session.old transaction handle (hex_bytes hex.now) ≡ outcome result disk.new session.new) × (space.new ≡ put space.old 0 (hex_bytes hex.now)) }
 {
@@ -36,7 +36,7 @@ pub fn make(
     line: &[u8],
     call: Call,
     space: &mut [u8],
-) -> Answer
+) -> Result<u64, Refusal>
     requires { (length line.now ≤ 8500) × (4250 ≤ length space.old) }
     ensures { (made disk.old session.old line.now call ≡ outcome result disk.new session.new) × (space.new ≡ kept line.now space.old call) }
 {
@@ -90,7 +90,7 @@ pub fn make(
             handle: _,
             offset: _,
             count: _,
-        } => Answer::Done(0),
-        Call::Unreadable => Answer::Done(0),
+        } => Ok(0),
+        Call::Unreadable => Ok(0),
     }
 }

@@ -7,10 +7,10 @@ ghost use Rattle.replies.specs.Replies.{reads, reply_to, Happened};
 
 use crate::calls::make;
 use crate::reads::entry_of;
-use answers::Answer;
+use answers::Refusal;
 use lines::Call;
 
-fn reply_with(answer: Answer, number: u64, out: &mut [u8]) -> usize
+fn reply_with(answer: Result<u64, Refusal>, number: u64, out: &mut [u8]) -> usize
     requires { 65 ≤ length out.old }
     ensures { Written (reply_of number (code_of answer) (value_of answer) []) out.old 0 result out.new }
 {
@@ -45,11 +45,11 @@ fn reply_read(
     }
     let answer = entries::read_entries(disk, session, transaction, handle, offset, count, space);
     match answer {
-        Answer::Done(n) => {
+        Ok(n) => {
             let wanted = (count * entry) as usize;
             lines::put_reply(out, number, 0, n, &space[..wanted])
         }
-        Answer::Refused(_) => reply_with(answer, number, out),
+        Err(_) => reply_with(answer, number, out),
     }
 }
 

@@ -1,12 +1,10 @@
 -- Every call but `format` keeps a session level with its disk: those that stage, begin or drop leave the epoch, the next side, and left and right; an append of
 -- entries and an open too; a commit and a store make them so again. Assumes nothing.
-use Rattle.std.specs.Prelude.{◌≡◌, ◌≢◌, List, ℕ, ◌+◌, ◌≤◌, ◌<◌, ◌^◌}
+use Rattle.std.specs.Prelude.{◌≡◌, ◌≢◌, List, ℕ, ◌+◌, ◌≤◌, ◌<◌, ◌^◌, Option, Some, None}
 use Rattle.std.proofs.Math.Path.{refl, sym, ap, subst}
 use Rattle.std.proofs.Common.{◌∙◌, arith}
 use Rattle.std.proofs.Math.ListN.{length}
 use Rattle.octets.specs.Cases.{decide, equal}
-use Rattle.octets.specs.declared.Found.{Found}
-use Rattle.octets.specs.declared.Found.TheVariants.{At, Nothing}
 use Rattle.octets.specs.Number.{Bytes, num_at-lt}
 use Rattle.answers.specs.Answers.{code_of}
 use Rattle.answers.specs.declared.Refusal.TheVariants.{Unusable, Full}
@@ -97,7 +95,7 @@ module _ (d s : List ℕ) (bytes : Bytes s) (level : Level d s) where
   truncate-level = begin-level (truncate_call d s) (truncate-refused d s) (λ e. same_store _ _ (truncate-means d s bytes e) refl refl)
 
 -- a 17th reader is refused
-no_place : (d s : List ℕ) → free_reader s ≡ Nothing → code_of (reader_call d s).answer ≢ 0
+no_place : (d s : List ℕ) → free_reader s ≡ None → code_of (reader_call d s).answer ≢ 0
 unfolding reader_call
 no_place d s e = decide (usable d s) (λ ok. rw (ok, e) (refusal-some Full)) (λ bad. rw bad (refusal-some Unusable))
 
@@ -105,9 +103,9 @@ pub reader-level : (d s : List ℕ) → Bytes s → Level d s → Level d (reade
 unfolding session_of
 reader-level d s whole level = begin-level d s whole level (reader_call d s) (reader-refused d s) (by (free_reader s) refl)
   where
-    by : (f : Found) → free_reader s ≡ f → code_of (reader_call d s).answer ≡ 0 → Level d (reader_call d s).session
-    by (At t) e served = same_store d s whole level _ _ (reader-means d s whole t e served) refl refl
-    by Nothing e served = absurd (no_place d s e served)
+    by : (f : Option ℕ) → free_reader s ≡ f → code_of (reader_call d s).answer ≡ 0 → Level d (reader_call d s).session
+    by (Some t) e served = same_store d s whole level _ _ (reader-means d s whole t e served) refl refl
+    by None e served = absurd (no_place d s e served)
 
 -- ---- an append of entries
 

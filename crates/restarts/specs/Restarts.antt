@@ -1,10 +1,9 @@
 -- After a commit and a `store` the session has the epoch and exactly the list that the commit published; no such store is refused for its list. Assumes
 -- nothing.
-use Rattle.std.specs.Prelude.{◌≡◌, Bool, true, List, ℕ, ◌+◌}
+use Rattle.std.specs.Prelude.{◌≡◌, Bool, true, List, ℕ, ◌+◌, Ok}
 use Rattle.std.proofs.Common.{ap, ◌∙◌}
 use Rattle.octets.specs.Number.{Bytes}
 use Rattle.answers.specs.Answers.{code_of}
-use Rattle.answers.specs.declared.Answer.TheVariants.{Done}
 use Rattle.session.specs.BeginLaws.{list-started}
 use Rattle.session.specs.Meaning.{session_of, list_in}
 use Rattle.session.specs.Rows.{head_of}
@@ -32,10 +31,10 @@ module _ (d s : List ℕ) (bytes : Bytes s) (t : ℕ) (served : code_of (commit_
   left = (commit_call d s t).disk
 
   -- a store is served, if the areas keep their layout rules
-  pub restart-served : both_sound left area ≡ true → (store_call left area).answer ≡ Done ((head_of s).epoch + 1)
+  pub restart-served : both_sound left area ≡ true → (store_call left area).answer ≡ Ok ((head_of s).epoch + 1)
   restart-served ok =
       let says = (commit-durable d s bytes t served level).says in
-      ap (λ (o : After). o.answer) (store-starts left area ok ∙ ap (start_with left area) says.1) ∙ ap Done says.0
+      ap (λ (o : After). o.answer) (store-starts left area ok ∙ ap (start_with left area) says.1) ∙ ap Ok says.0
 
   pub restarted : Bytes left → code_of (store_call left area).answer ≡ 0 → Restarted s (store_call left area).session (cuts s t)
   restarted old stored =

@@ -34,7 +34,7 @@ pub fn fill(ring: RingBuffer, bytes: &[u8], k: u64, out: &mut [u8])
     while done < wanted {
         let here = capacity - place;
         let left = wanted - done;
-        let n = octets::smaller(here, left);
+        let n = here.min(left);
         octets::copy_in(out, done, &bytes[place..place + n]);
         done += n;
         place = 0;
@@ -48,7 +48,7 @@ pub fn first_part<'a>(ring: RingBuffer, bytes: &'a [u8]) -> &'a [u8]
 {
     let start = ring.start;
     let room = ring.capacity - start;
-    let n = octets::smaller(ring.len, room);
+    let n = ring.len.min(room);
     &bytes[start..start + n]
 }
 
@@ -58,6 +58,6 @@ pub fn second_part<'a>(ring: RingBuffer, bytes: &'a [u8]) -> &'a [u8]
     ensures { result.now ≡ second_part ring bytes.now }
 {
     let room = ring.capacity - ring.start;
-    let n = ring.len - octets::smaller(ring.len, room);
+    let n = ring.len - ring.len.min(room);
     &bytes[..n]
 }

@@ -1,12 +1,10 @@
 -- A run of bytes written in two parts is written whole: first a byte and then the rest, and so two runs, one behind the other. Assumes nothing.
-use Rattle.std.specs.Prelude.{◌≡◌, refl, List, [], ◌∷◌, ◌++◌, ℕ, zero, suc, ◌+◌, ◌-◌, ◌≤◌, ◌<◌, ◌^◌, max, length, take, drop, replicate}
+use Rattle.std.specs.Prelude.{◌≡◌, refl, List, [], ◌∷◌, ◌++◌, ℕ, zero, suc, ◌+◌, ◌-◌, ◌≤◌, ◌<◌, ◌^◌, max, length, take, drop, replicate, Option, Some, None}
 use Rattle.std.proofs.Common.{sym, ap, ◌∙◌, add_assoc, add-zero, zero-add, arith, length-append, length-take-le}
 use Rattle.octets.specs.Bytes.{put, put-append}
 use Rattle.octets.specs.Number.{put_num, put_num-over}
 use Rattle.octets.specs.First.{first, first-same}
 use Rattle.octets.specs.Cases.{order}
-use Rattle.octets.specs.declared.Found.{Found}
-use Rattle.octets.specs.declared.Found.TheVariants.{At, Nothing}
 use Rattle.components.specs.Pieces.{file_of, place_in}
 use Rattle.components.specs.PiecesLaws.{first_count, left-some, place-left, piece-number, piece-place}
 use Rattle.layout.specs.Disk.{entry_at, data_at, slots, len, Sound}
@@ -60,8 +58,8 @@ pub write_piece-append : (d : List ℕ) (place n at : ℕ) (a b : List ℕ) → 
     → write_piece d place n at (a ++ b) ≡ write_piece (write_piece d place n at a) place n (at + length a) b
 write_piece-append d place n at a b sound fit = by (find_in d place n) refl
   where
-    by : (f : Found) → find_in d place n ≡ f → write_piece d place n at (a ++ b) ≡ write_piece (write_piece d place n at a) place n (at + length a) b
-    by (At i) e =
+    by : (f : Option ℕ) → find_in d place n ≡ f → write_piece d place n at (a ++ b) ≡ write_piece (write_piece d place n at a) place n (at + length a) b
+    by (Some i) e =
         let low = find-low d place n i e in
         let few = sound.head.few in
         let short = sound.lengths i low in
@@ -70,7 +68,7 @@ write_piece-append d place n at a b sound fit = by (find_in d place n) refl
         ∙ write_at-append d i at a b (omega arith) (entry-room d sound i low) (omega arith) (omega arith)
         ∙ sym (write-found t place n (at + length a) b i (find-write_at d sound i at a low (omega arith) place n ∙ e))
         ∙ ap (λ (l : List ℕ). write_piece l place n (at + length a) b) (sym (write-found d place n at a i e))
-    by Nothing e =
+    by None e =
         write-nothing d place n at (a ++ b) e
         ∙ sym (write-nothing d place n (at + length a) b e)
         ∙ ap (λ (l : List ℕ). write_piece l place n (at + length a) b) (sym (write-nothing d place n at a e))

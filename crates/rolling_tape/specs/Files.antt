@@ -1,13 +1,10 @@
 -- The files of a tape, as `components/specs/Files.antt` has them, from what the two areas mean: a number's file is the first slot of the directory that has
 -- it. Each change of tracking is the rule of document 01 that is said there. Assumes nothing.
-use Rattle.std.specs.Prelude.{◌≡◌, refl, ◌≢◌, true, false, cond, ◌&&◌, List, ℕ, ◌+◌, eqb, ltb, leb}
+use Rattle.std.specs.Prelude.{◌≡◌, refl, ◌≢◌, true, false, cond, ◌&&◌, List, ℕ, ◌+◌, eqb, ltb, leb, Option, Some, None}
 use Rattle.std.proofs.Common.{sym, ◌∙◌, arith, ne_eqb, eqb-true}
 use Rattle.std.proofs.Math.Path.{ap}
-use Rattle.std.proofs.Math.Option.{Option, none, some}
 use Rattle.octets.specs.Cases.{decide, and_l, and_r}
 use Rattle.octets.specs.First.{first-hits}
-use Rattle.octets.specs.declared.Found.{Found}
-use Rattle.octets.specs.declared.Found.TheVariants.{At, Nothing}
 use Rattle.components.specs.Files.{File, Files, gone, untracked, mark_below, clear_from, track}
 use Rattle.disk.specs.Meaning.{Disk, slot_with}
 use Rattle.session.specs.declared.tracking.Tracking.{Tracking}
@@ -17,17 +14,17 @@ use Rattle.rolling_tape.specs.declared.tracking.Change.TheVariants.{UntrackAbove
 use Rattle.rolling_tape.specs.Tracking.{is_tracked, changed}
 
 abbrev pub mark_of : Tracking → Option ℕ
-mark_of Untracked = none
-mark_of Tracked = none
-mark_of (Marked e) = some e
+mark_of Untracked = None
+mark_of Tracked = None
+mark_of (Marked e) = Some e
 
 -- a file on the disk, with its slot's tracking
 abbrev pub file_with : List ℕ → Tracking → File
 file_with bytes t = record { there = true; tracked = is_tracked t; mark = mark_of t; bytes = bytes }
 
-abbrev pub file_at : Disk → (ℕ → Tracking) → Found → File
-file_at m t (At i) = file_with (m.slot i).bytes (t i)
-file_at m t Nothing = gone
+abbrev pub file_at : Disk → (ℕ → Tracking) → Option ℕ → File
+file_at m t (Some i) = file_with (m.slot i).bytes (t i)
+file_at m t None = gone
 
 unfoldable pub files_of : Disk → (ℕ → Tracking) → ℕ → Files
 files_of m t place k = file_at m t (slot_with m place k)
@@ -70,11 +67,11 @@ no-file UntrackAll k f e = rw e
 
 -- the file of a number whose slot is known, or that has none
 module _ (m : Disk) (t : ℕ → Tracking) (place k : ℕ) where
-  pub file-in : (i : ℕ) → slot_with m place k ≡ At i → files_of m t place k ≡ file_with (m.slot i).bytes (t i)
+  pub file-in : (i : ℕ) → slot_with m place k ≡ Some i → files_of m t place k ≡ file_with (m.slot i).bytes (t i)
   unfolding files_of
   file-in i e = ap (file_at m t) e
 
-  pub file-out : slot_with m place k ≡ Nothing → files_of m t place k ≡ gone
+  pub file-out : slot_with m place k ≡ None → files_of m t place k ≡ gone
   unfolding files_of
   file-out e = ap (file_at m t) e
 
@@ -82,8 +79,8 @@ module _ (m : Disk) (t : ℕ → Tracking) (place k : ℕ) where
 pub files-changed : (m : Disk) (t : ℕ → Tracking) (place : ℕ) (c : Change) (k : ℕ) → files_of m (changed_in m place c t) place k ≡ changed_file c k (files_of m t place)
 files-changed m t place c k = by (slot_with m place k) refl
   where
-    by : (found : Found) → slot_with m place k ≡ found → files_of m (changed_in m place c t) place k ≡ changed_file c k (files_of m t place)
-    by (At i) e =
+    by : (found : Option ℕ) → slot_with m place k ≡ found → files_of m (changed_in m place c t) place k ≡ changed_file c k (files_of m t place)
+    by (Some i) e =
         let hit = (first-hits (λ j. eqb (m.slot j).owner (place + 1) && eqb (m.slot j).number k) m.slots 0 i e).holds in
         let own : eqb (m.slot i).owner (place + 1) ≡ true = and_l _ _ hit in
         let same : (m.slot i).number ≡ k = eqb-true _ _ (and_r (eqb (m.slot i).owner (place + 1)) _ hit) in
@@ -91,17 +88,17 @@ files-changed m t place c k = by (slot_with m place k) refl
         file-in m (changed_in m place c t) place k i e
         ∙ ap (file_with (m.slot i).bytes) here
         ∙ one-file c k (files_of m t place) (m.slot i).bytes (t i) (file-in m t place k i e)
-    by Nothing e = file-out m (changed_in m place c t) place k e ∙ no-file c k (files_of m t place) (file-out m t place k e)
+    by None e = file-out m (changed_in m place c t) place k e ∙ no-file c k (files_of m t place) (file-out m t place k e)
 
 -- and every other directory's files are as they were
 pub files-unchanged : (m : Disk) (t : ℕ → Tracking) (place other : ℕ) (c : Change) (k : ℕ) → other ≢ place → files_of m (changed_in m place c t) other k ≡ files_of m t other k
 files-unchanged m t place other c k apart = by (slot_with m other k) refl
   where
-    by : (found : Found) → slot_with m other k ≡ found → files_of m (changed_in m place c t) other k ≡ files_of m t other k
-    by (At i) e =
+    by : (found : Option ℕ) → slot_with m other k ≡ found → files_of m (changed_in m place c t) other k ≡ files_of m t other k
+    by (Some i) e =
         let hit = (first-hits (λ j. eqb (m.slot j).owner (other + 1) && eqb (m.slot j).number k) m.slots 0 i e).holds in
         let own : (m.slot i).owner ≡ other + 1 = eqb-true _ _ (and_l _ _ hit) in
         let not_own : eqb (m.slot i).owner (place + 1) ≡ false = ne_eqb (m.slot i).owner (place + 1) (λ (q : (m.slot i).owner ≡ place + 1). apart (omega arith)) in
         let here : changed_in m place c t i ≡ t i = rw not_own in
         file-in m (changed_in m place c t) other k i e ∙ ap (file_with (m.slot i).bytes) here ∙ sym (file-in m t other k i e)
-    by Nothing e = file-out m (changed_in m place c t) other k e ∙ sym (file-out m t other k e)
+    by None e = file-out m (changed_in m place c t) other k e ∙ sym (file-out m t other k e)

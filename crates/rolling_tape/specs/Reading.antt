@@ -1,8 +1,6 @@
 -- A run of bytes across files, byte by byte: "a file needed for a read missing, untracked or too short" is 16. Assumes nothing.
-use Rattle.std.specs.Prelude.{Bool, true, false, cond, ◌&&◌, List, [], ◌∷◌, ℕ, zero, suc, ◌+◌, leb, get_or, take, drop}
+use Rattle.std.specs.Prelude.{Bool, true, false, cond, ◌&&◌, List, [], ◌∷◌, ℕ, zero, suc, ◌+◌, leb, get_or, take, drop, Option, Some, None}
 use Rattle.octets.specs.First.{all}
-use Rattle.octets.specs.declared.Found.{Found}
-use Rattle.octets.specs.declared.Found.TheVariants.{At, Nothing}
 use Rattle.components.specs.Pieces.{file_of, place_in}
 use Rattle.layout.specs.Disk.{len}
 use Rattle.disk.specs.Steps.{find_file, file_bytes}
@@ -16,9 +14,9 @@ abbrev pub may_read : List ℕ → Bool → ℕ → Bool
 may_read s only i = cond only (is_tracked (tracking_of s i)) true
 
 -- a file that may be read and has so many bytes
-abbrev pub reaches : List ℕ → List ℕ → Bool → ℕ → Found → Bool
-reaches d s only end (At i) = may_read s only i && leb end (len d i)
-reaches d s only end Nothing = false
+abbrev pub reaches : List ℕ → List ℕ → Bool → ℕ → Option ℕ → Bool
+reaches d s only end (Some i) = may_read s only i && leb end (len d i)
+reaches d s only end None = false
 
 unfoldable pub piece_lies : List ℕ → List ℕ → Bool → List ℕ → ℕ → ℕ → Bool
 piece_lies d s only tape n end = reaches d s only end (find_file d tape n)
@@ -32,9 +30,9 @@ unfoldable pub can_read : List ℕ → List ℕ → Bool → List ℕ → ℕ �
 can_read d s only tape fs o n = all (λ j. can_read_at d s only tape fs (o + j)) n 0
 
 -- the same of the disk alone
-abbrev pub holds : List ℕ → ℕ → Found → Bool
-holds d end (At i) = leb end (len d i)
-holds d end Nothing = false
+abbrev pub holds : List ℕ → ℕ → Option ℕ → Bool
+holds d end (Some i) = leb end (len d i)
+holds d end None = false
 
 unfoldable pub piece_there : List ℕ → List ℕ → ℕ → ℕ → Bool
 piece_there d tape n end = holds d end (find_file d tape n)
@@ -44,9 +42,9 @@ lies d tape fs o n = all (λ j. piece_there d tape (file_of fs (o + j)) (place_i
 
 -- ---- what is read
 
-abbrev pub bytes_of : List ℕ → Found → List ℕ
-bytes_of d (At i) = file_bytes d i
-bytes_of d Nothing = []
+abbrev pub bytes_of : List ℕ → Option ℕ → List ℕ
+bytes_of d (Some i) = file_bytes d i
+bytes_of d None = []
 
 -- n bytes of a file from a place on
 unfoldable pub piece_bytes : List ℕ → List ℕ → ℕ → ℕ → ℕ → List ℕ

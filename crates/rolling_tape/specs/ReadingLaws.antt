@@ -1,5 +1,5 @@
 -- What a caller of the readers needs: what can be read lies in the files, a part of it can be read too, and which bytes are read. Assumes nothing.
-use Rattle.std.specs.Prelude.{◌≡◌, Bool, List, ◌++◌, leb, length, get_or}
+use Rattle.std.specs.Prelude.{◌≡◌, Bool, List, ◌++◌, leb, length, get_or, Option, Some, None}
 use Rattle.std.proofs.Math.Path.{refl, ap}
 use Rattle.std.proofs.Math.Bool.{true, false}
 use Prim.Native.Nat.{ℕ, zero, suc, ◌+◌, ◌≤◌, ◌<◌}
@@ -8,8 +8,6 @@ use Rattle.std.proofs.Math.Nat.{add-zero}
 use native.Mathlib.Omega.{arith}
 use Rattle.octets.specs.Cases.{and_r}
 use Rattle.octets.specs.First.{all, all_true, all-holds}
-use Rattle.octets.specs.declared.Found.{Found}
-use Rattle.octets.specs.declared.Found.TheVariants.{At, Nothing}
 use Rattle.components.specs.Pieces.{file_of, place_in}
 use Rattle.layout.specs.Disk.{len}
 use Rattle.disk.specs.Steps.{find_file}
@@ -23,9 +21,9 @@ module _ (d s : List ℕ) (only : Bool) (tape : List ℕ) where
   unfolding piece_lies piece_there
   piece-there n end h = cases (find_file d tape n) h
     where
-      cases : (f : Found) → reaches d s only end f ≡ true → holds d end f ≡ true
-      cases (At i) q = and_r (may_read s only i) (leb end (len d i)) q
-      cases Nothing q = q
+      cases : (f : Option ℕ) → reaches d s only end f ≡ true → holds d end f ≡ true
+      cases (Some i) q = and_r (may_read s only i) (leb end (len d i)) q
+      cases None q = q
 
   module _ (fs o : ℕ) where
     pub can_read-none : can_read d s only tape fs o 0 ≡ true
@@ -54,9 +52,9 @@ module _ (d s tape : List ℕ) where
   unfolding piece_lies
   piece-more n end h = cases (find_file d tape n) h
     where
-      cases : (f : Found) → reaches d s true end f ≡ true → reaches d s false end f ≡ true
-      cases (At i) q = and_r (may_read s true i) (leb end (len d i)) q
-      cases Nothing q = q
+      cases : (f : Option ℕ) → reaches d s true end f ≡ true → reaches d s false end f ≡ true
+      cases (Some i) q = and_r (may_read s true i) (leb end (len d i)) q
+      cases None q = q
 
   pub can-more : (fs o n : ℕ) → can_read d s true tape fs o n ≡ true → can_read d s false tape fs o n ≡ true
   can-more fs o n h =

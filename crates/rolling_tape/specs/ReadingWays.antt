@@ -2,7 +2,7 @@
 -- file's. The law of the pieces is over the test, so that it serves both `can_read` and `lies`. Assumes nothing.
 use Rattle.std.proofs.Math.Path.{◌≡◌, refl}
 use Rattle.std.proofs.Common.{sym, ap, ◌∙◌, add_assoc, add-zero, ext_get_or, get_or-take, get_or-drop}
-use Rattle.std.specs.Prelude.{Bool, false, List, ◌++◌, ℕ, ◌+◌, ◌-◌, ◌≤◌, ◌<◌, min, leb, take, drop}
+use Rattle.std.specs.Prelude.{Bool, false, List, ◌++◌, ℕ, ◌+◌, ◌-◌, ◌≤◌, ◌<◌, min, leb, take, drop, Option, Some, None}
 use Rattle.std.proofs.Math.Bool.{true}
 use Rattle.std.proofs.Math.Nat.{sub-zero}
 use native.Mathlib.Omega.{arith}
@@ -11,8 +11,6 @@ use Rattle.std.proofs.Math.ListN.{length}
 use Rattle.octets.specs.Bytes.{put, length_part, put-append, put-lent, put_whole}
 use Rattle.octets.specs.Cases.{and_l, and_r, and_both}
 use Rattle.octets.specs.First.{all, all-skip, all-fails, all-holds}
-use Rattle.octets.specs.declared.Found.{Found}
-use Rattle.octets.specs.declared.Found.TheVariants.{At, Nothing}
 use Rattle.components.specs.Pieces.{file_of, place_in, left_in}
 use Rattle.components.specs.PiecesLaws.{left-some, place-left, piece-number, piece-place}
 use Rattle.layout.specs.Names.{find_name}
@@ -25,24 +23,24 @@ use Rattle.rolling_tape.specs.ReadingLaws.{length-read_run, read_run-nth, run-ap
 
 -- ---- what was found
 
-pub file-low : (d tape : List ℕ) (n i : ℕ) → find_file d tape n ≡ At i → i < slots d
+pub file-low : (d tape : List ℕ) (n i : ℕ) → find_file d tape n ≡ Some i → i < slots d
 unfolding find_file
 file-low d tape n i e = cases (find_name d directories tape) e
   where
-    cases : (f : Found) → within d n f ≡ At i → i < slots d
-    cases (At p) q = find-low d p n i q
-    cases Nothing q = let z : ◌≡◌ {A = ℕ} 0 1 = cc in absurd (omega arith)
+    cases : (f : Option ℕ) → within d n f ≡ Some i → i < slots d
+    cases (Some p) q = find-low d p n i q
+    cases None q = let z : ◌≡◌ {A = ℕ} 0 1 = cc in absurd (omega arith)
 
 module _ (d s : List ℕ) (only : Bool) (tape : List ℕ) (n end : ℕ) where
-  pub lies-none : find_file d tape n ≡ Nothing → piece_lies d s only tape n end ≡ false
+  pub lies-none : find_file d tape n ≡ None → piece_lies d s only tape n end ≡ false
   unfolding piece_lies
   lies-none e = rw e
 
-  pub lies-not : (i : ℕ) → find_file d tape n ≡ At i → may_read s only i ≡ false → piece_lies d s only tape n end ≡ false
+  pub lies-not : (i : ℕ) → find_file d tape n ≡ Some i → may_read s only i ≡ false → piece_lies d s only tape n end ≡ false
   unfolding piece_lies
   lies-not i e h = rw (e, h)
 
-  pub lies-up-to : (i : ℕ) → find_file d tape n ≡ At i → may_read s only i ≡ true → piece_lies d s only tape n end ≡ leb end (len d i)
+  pub lies-up-to : (i : ℕ) → find_file d tape n ≡ Some i → may_read s only i ≡ true → piece_lies d s only tape n end ≡ leb end (len d i)
   unfolding piece_lies
   lies-up-to i e h = rw (e, h)
 
@@ -54,16 +52,16 @@ pub lies-less : (d s : List ℕ) (only : Bool) (tape : List ℕ) (n end e : ℕ)
 unfolding piece_lies
 lies-less d s only tape n end e l h = cases (find_file d tape n) h
   where
-    cases : (f : Found) → reaches d s only end f ≡ true → reaches d s only e f ≡ true
-    cases (At i) q = and_both (may_read s only i) (leb e (len d i)) (and_l _ _ q) (less-leb end e (len d i) l (and_r (may_read s only i) _ q))
-    cases Nothing q = q
+    cases : (f : Option ℕ) → reaches d s only end f ≡ true → reaches d s only e f ≡ true
+    cases (Some i) q = and_both (may_read s only i) (leb e (len d i)) (and_l _ _ q) (less-leb end e (len d i) l (and_r (may_read s only i) _ q))
+    cases None q = q
 
 module _ (d tape : List ℕ) (n end : ℕ) where
-  pub there-at : (i : ℕ) → find_file d tape n ≡ At i → piece_there d tape n end ≡ true → end ≤ len d i
+  pub there-at : (i : ℕ) → find_file d tape n ≡ Some i → piece_there d tape n end ≡ true → end ≤ len d i
   unfolding piece_there
   there-at i e h = leb-true end (len d i) (rw e at h)
 
-  pub there-none : find_file d tape n ≡ Nothing → piece_there d tape n end ≡ true → ⊥
+  pub there-none : find_file d tape n ≡ None → piece_there d tape n end ≡ true → ⊥
   unfolding piece_there
   there-none e h = let z : ◌≡◌ {A = ℕ} 0 1 = cc in absurd (omega arith)
 
@@ -123,23 +121,23 @@ module _ (d tape : List ℕ) (sound : Sound d) (number place n : ℕ) (there : p
   unfolding piece_there
   length-bytes_of = cases (find_file d tape number) refl there
     where
-      cases : (f : Found) → find_file d tape number ≡ f → holds d (place + n) f ≡ true → place + n ≤ length (bytes_of d f)
-      cases (At i) e q = let l = leb-true (place + n) (len d i) q in let f = length-file d sound i (file-low d tape number i e) in omega arith
-      cases Nothing e q = let z : ◌≡◌ {A = ℕ} 0 1 = cc in absurd (omega arith)
+      cases : (f : Option ℕ) → find_file d tape number ≡ f → holds d (place + n) f ≡ true → place + n ≤ length (bytes_of d f)
+      cases (Some i) e q = let l = leb-true (place + n) (len d i) q in let f = length-file d sound i (file-low d tape number i e) in omega arith
+      cases None e q = let z : ◌≡◌ {A = ℕ} 0 1 = cc in absurd (omega arith)
 
   pub length-piece : length (piece_bytes d tape number place n) ≡ n
   unfolding piece_bytes
   length-piece = length_part n (bytes_of d (find_file d tape number)) place length-bytes_of
 
 -- the bytes that the copy leaves
-pub piece-copied : (d tape : List ℕ) → Sound d → (number place i : ℕ) (out : List ℕ) → find_file d tape number ≡ At i → piece_there d tape number (place + length out) ≡ true
+pub piece-copied : (d tape : List ℕ) → Sound d → (number place i : ℕ) (out : List ℕ) → find_file d tape number ≡ Some i → piece_there d tape number (place + length out) ≡ true
     → put out 0 (take (place + length out - place) (drop place (file_bytes d i))) ≡ piece_bytes d tape number place (length out)
 unfolding piece_bytes
 piece-copied d tape sound number place i out found there =
     let n = length out in
     let e : place + n - place ≡ n = omega arith in
     ap (λ (k : ℕ). put out 0 (take k (drop place (file_bytes d i)))) e
-    ∙ ap (λ (f : Found). put out 0 (take n (drop place (bytes_of d f)))) (sym found)
+    ∙ ap (λ (f : Option ℕ). put out 0 (take n (drop place (bytes_of d f)))) (sym found)
     ∙ put_whole out (take n (drop place (bytes_of d (find_file d tape number)))) (length-piece d tape sound number place n there)
 
 -- a piece's bytes are the run's

@@ -1,19 +1,18 @@
 -- The turns of the loop that counts lacking files, and what the search for one says. Assumes nothing.
-use Rattle.std.specs.Prelude.{◌≡◌, Bool, true, false, List}
+use Rattle.std.specs.Prelude.{◌≡◌, Bool, true, false, List, Some, None}
 use Prim.Native.Nat.{ℕ, suc, ◌+◌, ◌-◌, ◌≤◌, ◌<◌}
 use Rattle.std.proofs.Common.{add_assoc, zero-add}
 use native.Mathlib.Omega.{arith}
-use Rattle.octets.specs.declared.Found.TheVariants.{At, Nothing}
 use Rattle.components.specs.Slots.{lacking_from}
 use Rattle.disk.specs.Steps.{find_in}
 use Rattle.rolling_tape.specs.Room.{on_disk}
 
 module _ (d : List ℕ) (place n : ℕ) where
-  pub on-disk : (i : ℕ) → find_in d place n ≡ At i → on_disk d place n ≡ true
+  pub on-disk : (i : ℕ) → find_in d place n ≡ Some i → on_disk d place n ≡ true
   unfolding on_disk
   on-disk i e = rw e
 
-  pub not-on-disk : find_in d place n ≡ Nothing → on_disk d place n ≡ false
+  pub not-on-disk : find_in d place n ≡ None → on_disk d place n ≡ false
   unfolding on_disk
   not-on-disk e = rw e
 

@@ -1,8 +1,6 @@
 -- A run of bytes over files: every file that it lies in is made, or met again, and tracked; then its pieces are written. "Making a file untracks higher
 -- numbers; their bytes stay on disk and return if the number is reached again." Assumes nothing.
-use Rattle.std.specs.Prelude.{Bool, false, cond, List, [], ◌∷◌, ℕ, zero, suc, ◌+◌, length, take, drop}
-use Rattle.octets.specs.declared.Found.{Found}
-use Rattle.octets.specs.declared.Found.TheVariants.{At, Nothing}
+use Rattle.std.specs.Prelude.{Bool, false, cond, List, [], ◌∷◌, ℕ, zero, suc, ◌+◌, length, take, drop, Option, Some, None}
 use Rattle.components.specs.Pieces.{Piece, pieces}
 use Rattle.disk.specs.Steps.{make_file, find_in, write_at}
 use Rattle.session.specs.Rows.{tracking_of, put_tracking}
@@ -22,9 +20,9 @@ was_tracked s there i = cond there (is_tracked (tracking_of s i)) false
 unfoldable pub track_file : List ℕ → List ℕ → ℕ → ℕ → Bool → ℕ → List ℕ
 track_file d s place n there i = cond (was_tracked s there i) s (put_tracking (retracked d s place (UntrackAbove n)) i Tracked)
 
-abbrev pub track_found : List ℕ → List ℕ → ℕ → ℕ → Bool → Found → Areas
-track_found d s place n there (At i) = areas d (track_file d s place n there i)
-track_found d s place n there Nothing = areas d s
+abbrev pub track_found : List ℕ → List ℕ → ℕ → ℕ → Bool → Option ℕ → Areas
+track_found d s place n there (Some i) = areas d (track_file d s place n there i)
+track_found d s place n there None = areas d s
 
 unfoldable pub make_tracked : Areas → ℕ → ℕ → Areas
 make_tracked a place n =
@@ -37,9 +35,9 @@ covered a place n (suc k) = covered (make_tracked a place n) place (n + 1) k
 
 -- ---- the bytes
 
-abbrev pub write_found : List ℕ → ℕ → List ℕ → Found → List ℕ
-write_found d at bs (At i) = write_at d i at bs
-write_found d at bs Nothing = d
+abbrev pub write_found : List ℕ → ℕ → List ℕ → Option ℕ → List ℕ
+write_found d at bs (Some i) = write_at d i at bs
+write_found d at bs None = d
 
 unfoldable pub write_piece : List ℕ → ℕ → ℕ → ℕ → List ℕ → List ℕ
 write_piece d place n at bs = write_found d at bs (find_in d place n)

@@ -1,5 +1,5 @@
 -- Covering a run's files and writing its bytes: where they write, and that both areas stay sound, as long as they were, and bytes. Assumes nothing.
-use Rattle.std.specs.Prelude.{◌≡◌, Bool, ℕ, zero, suc, ◌+◌, ◌≤◌, ◌<◌, ◌^◌, drop}
+use Rattle.std.specs.Prelude.{◌≡◌, Bool, ℕ, zero, suc, ◌+◌, ◌≤◌, ◌<◌, ◌^◌, drop, Option, Some, None}
 use Rattle.std.proofs.Math.Path.{refl}
 use Rattle.std.proofs.Common.{◌∙◌, arith, length-take}
 use mathlib.Core.List.{List, [], ◌∷◌, Memᴰ}
@@ -7,8 +7,6 @@ use Rattle.std.proofs.Math.ListN.{length, take}
 use Rattle.octets.specs.Number.{Bytes, bytes_take, bytes_drop}
 use Rattle.octets.specs.Only.{OnlyIn, only_none, only_then, only_wider}
 use Rattle.octets.specs.Cases.{picked}
-use Rattle.octets.specs.declared.Found.{Found}
-use Rattle.octets.specs.declared.Found.TheVariants.{At, Nothing}
 use Rattle.components.specs.Pieces.{Piece, pieces}
 use Rattle.components.specs.PiecesLaws.{Inside, pieces-inside}
 use Rattle.layout.specs.Disk.{data_at, slots, Sound}
@@ -71,15 +69,15 @@ module _ (d : List ℕ) (place n : ℕ) where
   unfolding make_file
   only-make_file few = by (find_in d place n)
     where
-      new : (f : Found) → free_slot d ≡ f → OnlyIn 1312 2848 d (make_new d place n f).area
-      new (At i) e =
+      new : (f : Option ℕ) → free_slot d ≡ f → OnlyIn 1312 2848 d (make_new d place n f).area
+      new (Some i) e =
           let low = free-low d i e in
           only_wider _ _ 1312 2848 d _ (omega arith) (omega arith) (only-put_entry d i _)
-      new Nothing e = only_none 1312 2848 d
+      new None e = only_none 1312 2848 d
 
-      by : (f : Found) → OnlyIn 1312 2848 d (make_unless d place n f).area
-      by (At i) = only_none 1312 2848 d
-      by Nothing = new (free_slot d) refl
+      by : (f : Option ℕ) → OnlyIn 1312 2848 d (make_unless d place n f).area
+      by (Some i) = only_none 1312 2848 d
+      by None = new (free_slot d) refl
 
 -- ---- a file made and tracked
 
@@ -92,9 +90,9 @@ module _ (a : Areas) (place n : ℕ) where
   unfolding make_tracked
   disk-make_tracked = by (make_file a.disk place n).answer
     where
-      by : (f : Found) → (track_found made a.session place n (on_disk a.disk place n) f).disk ≡ made
-      by (At i) = refl
-      by Nothing = refl
+      by : (f : Option ℕ) → (track_found made a.session place n (on_disk a.disk place n) f).disk ≡ made
+      by (Some i) = refl
+      by None = refl
 
   pub length-make_tracked-disk : length (make_tracked a place n).disk ≡ length a.disk
   length-make_tracked-disk = rw disk-make_tracked (length-make_file a.disk place n)
@@ -115,40 +113,40 @@ module _ (a : Areas) (place n : ℕ) where
   unfolding make_tracked
   length-make_tracked-session = by (make_file a.disk place n).answer
     where
-      by : (f : Found) → length (track_found made a.session place n (on_disk a.disk place n) f).session ≡ length a.session
-      by (At i) = length-track_file made a.session place n (on_disk a.disk place n) i
-      by Nothing = refl
+      by : (f : Option ℕ) → length (track_found made a.session place n (on_disk a.disk place n) f).session ≡ length a.session
+      by (Some i) = length-track_file made a.session place n (on_disk a.disk place n) i
+      by None = refl
 
   pub begun-make_tracked : Begun a.session → Begun (make_tracked a place n).session
   unfolding make_tracked
   begun-make_tracked begun = by (make_file a.disk place n).answer
     where
-      by : (f : Found) → Begun (track_found made a.session place n (on_disk a.disk place n) f).session
-      by (At i) = begun-track_file made a.session place n (on_disk a.disk place n) i begun
-      by Nothing = begun
+      by : (f : Option ℕ) → Begun (track_found made a.session place n (on_disk a.disk place n) f).session
+      by (Some i) = begun-track_file made a.session place n (on_disk a.disk place n) i begun
+      by None = begun
 
   module _ (few : slots a.disk ≤ 64) where
     still-few : slots made ≤ 64
     still-few = rw (slots-make_file a.disk place n) few
 
-    slot-low : (i : ℕ) → (make_file a.disk place n).answer ≡ At i → i < 64
+    slot-low : (i : ℕ) → (make_file a.disk place n).answer ≡ Some i → i < 64
     slot-low i e = omega (arith, made-low a.disk place n i e)
 
     pub only-make_tracked-session : OnlyIn 4936 5960 a.session (make_tracked a place n).session
     unfolding make_tracked
     only-make_tracked-session = by (make_file a.disk place n).answer refl
       where
-        by : (f : Found) → (make_file a.disk place n).answer ≡ f → OnlyIn 4936 5960 a.session (track_found made a.session place n (on_disk a.disk place n) f).session
-        by (At i) e = only-track_file made a.session place n (on_disk a.disk place n) i still-few (slot-low i e)
-        by Nothing e = only_none 4936 5960 a.session
+        by : (f : Option ℕ) → (make_file a.disk place n).answer ≡ f → OnlyIn 4936 5960 a.session (track_found made a.session place n (on_disk a.disk place n) f).session
+        by (Some i) e = only-track_file made a.session place n (on_disk a.disk place n) i still-few (slot-low i e)
+        by None e = only_none 4936 5960 a.session
 
     pub bytes-make_tracked-session : session_bytes ≤ length a.session → Bytes a.session → Bytes (make_tracked a place n).session
     unfolding make_tracked
     bytes-make_tracked-session long bytes = by (make_file a.disk place n).answer refl
       where
-        by : (f : Found) → (make_file a.disk place n).answer ≡ f → Bytes (track_found made a.session place n (on_disk a.disk place n) f).session
-        by (At i) e = bytes-track_file made a.session place n (on_disk a.disk place n) i still-few (slot-low i e) long bytes
-        by Nothing e = bytes
+        by : (f : Option ℕ) → (make_file a.disk place n).answer ≡ f → Bytes (track_found made a.session place n (on_disk a.disk place n) f).session
+        by (Some i) e = bytes-track_file made a.session place n (on_disk a.disk place n) i still-few (slot-low i e) long bytes
+        by None e = bytes
 
 -- ---- some numbers covered
 
@@ -228,9 +226,9 @@ module _ (d : List ℕ) (place n at : ℕ) (bs : List ℕ) (sound : Sound d) (fi
   unfolding write_piece
   only-write_piece = by (find_in d place n) refl
     where
-      by : (f : Found) → find_in d place n ≡ f → OnlyIn 1312 (data_at (slots d)) d (write_found d at bs f)
-      by (At i) e = only-write_at d sound i at bs (find-low d place n i e) fit
-      by Nothing e = only_none _ _ d
+      by : (f : Option ℕ) → find_in d place n ≡ f → OnlyIn 1312 (data_at (slots d)) d (write_found d at bs f)
+      by (Some i) e = only-write_at d sound i at bs (find-low d place n i e) fit
+      by None e = only_none _ _ d
 
   pub slots-write_piece : slots (write_piece d place n at bs) ≡ slots d
   slots-write_piece = slots-only _ _ d _ only-write_piece (omega arith)
@@ -239,11 +237,11 @@ module _ (d : List ℕ) (place n at : ℕ) (bs : List ℕ) (sound : Sound d) (fi
   unfolding write_piece
   bytes-write_piece old new = by (find_in d place n) refl
     where
-      by : (f : Found) → find_in d place n ≡ f → Bytes (write_found d at bs f)
-      by (At i) e =
+      by : (f : Option ℕ) → find_in d place n ≡ f → Bytes (write_found d at bs f)
+      by (Some i) e =
           let low = find-low d place n i e in
           bytes-write_at d i at bs (sound.lengths i low) fit (data-room d sound i low) old new
-      by Nothing e = old
+      by None e = old
 
 length-pieces : (d : List ℕ) (place : ℕ) (ps : List Piece) (bs : List ℕ) → length (write_pieces d place ps bs) ≡ length d
 unfolding write_pieces

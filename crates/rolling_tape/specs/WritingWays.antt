@@ -1,12 +1,10 @@
 -- The ways out of the functions that write a run, and the turns of their loops. Assumes nothing.
-use Rattle.std.specs.Prelude.{◌≡◌, Bool, true, false, List, [], take, drop}
+use Rattle.std.specs.Prelude.{◌≡◌, Bool, true, false, List, [], take, drop, Option, Some, None}
 use Rattle.std.proofs.Math.Path.{refl, ap}
 use Rattle.std.proofs.Common.{sym, ◌∙◌, add_assoc, drop_of_length-le, drop-drop}
 use Prim.Native.Nat.{ℕ, suc, ◌+◌, ◌-◌, ◌≤◌, ◌<◌, ◌^◌}
 use native.Mathlib.Omega.{arith}
 use Rattle.std.proofs.Math.ListN.{length, length-drop}
-use Rattle.octets.specs.declared.Found.{Found}
-use Rattle.octets.specs.declared.Found.TheVariants.{At, Nothing}
 use Rattle.components.specs.Pieces.{file_of, place_in}
 use Rattle.components.specs.PiecesLaws.{left-some, place-left, first_count, pieces-some, pieces_none}
 use Rattle.layout.specs.Disk.{slots, Sound}
@@ -24,11 +22,11 @@ use Rattle.rolling_tape.specs.Writing.{was_tracked, track_file, track_found, mak
 -- ---- one piece
 
 module _ (d : List ℕ) (place n at : ℕ) (bs : List ℕ) where
-  pub write-found : (i : ℕ) → find_in d place n ≡ At i → write_piece d place n at bs ≡ write_at d i at bs
+  pub write-found : (i : ℕ) → find_in d place n ≡ Some i → write_piece d place n at bs ≡ write_at d i at bs
   unfolding write_piece
   write-found i e = ap (write_found d at bs) e
 
-  pub write-nothing : find_in d place n ≡ Nothing → write_piece d place n at bs ≡ d
+  pub write-nothing : find_in d place n ≡ None → write_piece d place n at bs ≡ d
   unfolding write_piece
   write-nothing e = ap (write_found d at bs) e
 
@@ -36,17 +34,17 @@ module _ (d : List ℕ) (place n at : ℕ) (bs : List ℕ) where
   unfolding write_piece
   length-write_piece = by (find_in d place n)
     where
-      by : (f : Found) → length (write_found d at bs f) ≡ length d
-      by (At i) = length-write_at d i at bs
-      by Nothing = refl
+      by : (f : Option ℕ) → length (write_found d at bs f) ≡ length d
+      by (Some i) = length-write_at d i at bs
+      by None = refl
 
   pub sound-write_piece : Sound d → at + length bs ≤ 4096 → Sound (write_piece d place n at bs)
   unfolding write_piece
   sound-write_piece sound fit = by (find_in d place n) refl
     where
-      by : (f : Found) → find_in d place n ≡ f → Sound (write_found d at bs f)
-      by (At i) e = sound-write_at d sound i at bs (find-low d place n i e) fit
-      by Nothing e = sound
+      by : (f : Option ℕ) → find_in d place n ≡ f → Sound (write_found d at bs f)
+      by (Some i) e = sound-write_at d sound i at bs (find-low d place n i e) fit
+      by None e = sound
 
 -- ---- a run: its first piece, and the rest
 
@@ -91,35 +89,35 @@ module _ (d : List ℕ) (place n : ℕ) where
   unfolding make_file
   slots-make_file = by (find_in d place n)
     where
-      new : (f : Found) → slots (make_new d place n f).area ≡ slots d
-      new (At i) = slots-only _ _ d _ (only-put_entry d i _) (omega arith)
-      new Nothing = refl
+      new : (f : Option ℕ) → slots (make_new d place n f).area ≡ slots d
+      new (Some i) = slots-only _ _ d _ (only-put_entry d i _) (omega arith)
+      new None = refl
 
-      by : (f : Found) → slots (make_unless d place n f).area ≡ slots d
-      by (At i) = refl
-      by Nothing = new (free_slot d)
+      by : (f : Option ℕ) → slots (make_unless d place n f).area ≡ slots d
+      by (Some i) = refl
+      by None = new (free_slot d)
 
-  pub made-low : (i : ℕ) → (make_file d place n).answer ≡ At i → i < slots d
+  pub made-low : (i : ℕ) → (make_file d place n).answer ≡ Some i → i < slots d
   unfolding make_file
   made-low i = by (find_in d place n) refl
     where
-      new : (f : Found) → free_slot d ≡ f → (make_new d place n f).answer ≡ At i → i < slots d
-      new (At j) e q = free-low d i (e ∙ q)
-      new Nothing e q = free-low d i (e ∙ q)
+      new : (f : Option ℕ) → free_slot d ≡ f → (make_new d place n f).answer ≡ Some i → i < slots d
+      new (Some j) e q = free-low d i (e ∙ q)
+      new None e q = free-low d i (e ∙ q)
 
-      by : (f : Found) → find_in d place n ≡ f → (make_unless d place n f).answer ≡ At i → i < slots d
-      by (At j) e q = find-low d place n i (e ∙ q)
-      by Nothing e q = new (free_slot d) refl q
+      by : (f : Option ℕ) → find_in d place n ≡ f → (make_unless d place n f).answer ≡ Some i → i < slots d
+      by (Some j) e q = find-low d place n i (e ∙ q)
+      by None e q = new (free_slot d) refl q
 
   -- the slot of an answer, in the area as it then is
-  pub slot-made : (i : ℕ) (t : List ℕ) → make_file d place n ≡ after (At i) t → i < slots t
+  pub slot-made : (i : ℕ) (t : List ℕ) → make_file d place n ≡ after (Some i) t → i < slots t
   slot-made i t e =
       let same : (make_file d place n).area ≡ t = ap (λ (r : After). r.area) e in
       let low : i < slots d = made-low i (ap (λ (r : After). r.answer) e) in
       let count : slots t ≡ slots d = ap (λ (s : List ℕ). slots s) (sym same) ∙ slots-make_file in
       omega arith
 
-  pub sound-made : (r : Found) (t : List ℕ) → make_file d place n ≡ after r t → Sound d → place < 8 → n < 256 ^ 8 → Sound t
+  pub sound-made : (r : Option ℕ) (t : List ℕ) → make_file d place n ≡ after r t → Sound d → place < 8 → n < 256 ^ 8 → Sound t
   sound-made r t e sound low fits =
       let same : (make_file d place n).area ≡ t = ap (λ (x : After). x.area) e in
       rw same at (sound-make_file d sound place n low fits)
@@ -136,11 +134,11 @@ module _ (d s : List ℕ) (place n : ℕ) (there : Bool) (i : ℕ) where
   track-new e = rw e
 
 module _ (d s : List ℕ) (place n : ℕ) (t : List ℕ) where
-  pub tracked-made : (i : ℕ) → make_file d place n ≡ after (At i) t → make_tracked (areas d s) place n ≡ areas t (track_file t s place n (on_disk d place n) i)
+  pub tracked-made : (i : ℕ) → make_file d place n ≡ after (Some i) t → make_tracked (areas d s) place n ≡ areas t (track_file t s place n (on_disk d place n) i)
   unfolding make_tracked
   tracked-made i e = ap (λ (r : After). track_found r.area s place n (on_disk d place n) r.answer) e
 
-  pub tracked-full : make_file d place n ≡ after Nothing t → make_tracked (areas d s) place n ≡ areas t s
+  pub tracked-full : make_file d place n ≡ after None t → make_tracked (areas d s) place n ≡ areas t s
   unfolding make_tracked
   tracked-full e = ap (λ (r : After). track_found r.area s place n (on_disk d place n) r.answer) e
 

@@ -5,7 +5,6 @@ ghost use Rattle.layout.specs.Session.{session_bytes};
 ghost use Rattle.rolling_tape.specs.Reading.{may_read, piece_lies, can_read, piece_there, piece_bytes, lies, read_run};
 
 use crate::tracking::is_tracked;
-use octets::Found;
 
 // Whether the file in a slot may be read: where only tracked ones may, it has to be one.
 fn may_read(session: &[u8], only_tracked: bool, slot: usize) -> bool
@@ -31,7 +30,7 @@ fn piece_lies(
     ensures { result ≡ piece_lies disk.now session.now only_tracked tape.now number end }
 {
     let found = disk::find_file(disk, tape, number);
-    let Found::At(slot) = found else {
+    let Some(slot) = found else {
         return false;
     };
     if may_read(session, only_tracked, slot) {
@@ -58,7 +57,7 @@ pub fn can_read(
     while done < count {
         let here = offset + done as u64;
         let left = components::left_in(file_size, here) as usize;
-        let n = octets::smaller(count - done, left);
+        let n = (count - done).min(left);
         let number = components::file_of(file_size, here);
         let place = components::place_in(file_size, here) as usize;
         if piece_lies(disk, session, only_tracked, tape, number, place + n) {
@@ -76,7 +75,7 @@ fn read_piece(disk: &[u8], tape: &[u8], number: u64, place: usize, out: &mut [u8
     ensures { out.new ≡ piece_bytes disk.now tape.now number place (length out.old) }
 {
     let found = disk::find_file(disk, tape, number);
-    let Found::At(slot) = found else {
+    let Some(slot) = found else {
         return;
     };
     let part = disk::file_part(disk, slot);
@@ -93,7 +92,7 @@ pub fn read_run(disk: &[u8], tape: &[u8], file_size: u64, offset: u64, out: &mut
     while done < out.len() {
         let here = offset + done as u64;
         let left = components::left_in(file_size, here) as usize;
-        let n = octets::smaller(out.len() - done, left);
+        let n = (out.len() - done).min(left);
         let number = components::file_of(file_size, here);
         let place = components::place_in(file_size, here) as usize;
         let end = done + n;

@@ -37,12 +37,10 @@ fn clear_below(disk: &[u8], session: &[u8], place: usize, oldest: u64, number: u
     ensures { result ≡ clear_below disk.now session.now place oldest number }
 {
     let count = disk::slot_count(disk);
-    let mut i = 0;
-    while i < count {
+    for i in 0..count {
         if stops_below(disk, session, place, oldest, number, i) {
             return false;
         }
-        i += 1;
     }
     true
 }
@@ -77,9 +75,7 @@ pub fn remove_ripe(disk: &mut [u8], session: &mut [u8], place: usize, oldest: u6
     ensures { remove_ripe (areas disk.old session.old) place oldest ≡ areas disk.new session.new }
 {
     let count = disk::slot_count(disk);
-    let mut i = 0;
-    while i < count {
+    for i in 0..count {
         remove_slot(disk, session, place, oldest, i);
-        i += 1;
     }
 }

@@ -4,7 +4,6 @@ ghost use Rattle.components.specs.Slots.{lacking_from};
 ghost use Rattle.layout.specs.Disk.{Sound};
 ghost use Rattle.rolling_tape.specs.Room.{on_disk};
 
-use octets::Found;
 
 // Whether a directory has the file of a number.
 pub fn has_file(disk: &[u8], place: usize, number: u64) -> bool
@@ -13,8 +12,8 @@ pub fn has_file(disk: &[u8], place: usize, number: u64) -> bool
 {
     let found = disk::find_in(disk, place, number);
     match found {
-        Found::At(_) => true,
-        Found::Nothing => false,
+        Some(_) => true,
+        None => false,
     }
 }
 
@@ -25,17 +24,13 @@ pub fn lacking_files(disk: &[u8], place: usize, first: u64, count: u64, most: u6
     ensures { result ≡ min (lacking_from (on_disk disk.now place) first count) most }
 {
     let mut lacking = 0;
-    let mut done = 0;
-    while done < count {
+    for done in 0..count {
         if most <= lacking {
             return most;
         }
-        if has_file(disk, place, first + done) {
-            done += 1;
-        } else {
+        if !has_file(disk, place, first + done) {
             lacking += 1;
-            done += 1;
         }
     }
-    octets::smaller(lacking as usize, most as usize) as u64
+    lacking.min(most)
 }

@@ -113,9 +113,7 @@ pub fn retrack(disk: &[u8], session: &mut [u8], place: usize, change: Change)
     ensures { session.new ≡ retracked disk.now session.old place change }
 {
     let count = disk::slot_count(disk);
-    let mut i = 0;
-    while i < count {
+    for i in 0..count {
         retrack_slot(disk, session, place, i, change);
-        i += 1;
     }
 }

@@ -8,7 +8,6 @@ ghost use Rattle.rolling_tape.specs.Writing.{was_tracked, track_file, make_track
 
 use crate::room::has_file;
 use crate::tracking::{Change, is_tracked, retrack};
-use octets::Found;
 use session::Tracking;
 
 // Whether the file in a slot was there before and is tracked. What the row of a free slot says is no
@@ -43,7 +42,7 @@ fn make_tracked(disk: &mut [u8], session: &mut [u8], place: usize, number: u64)
 {
     let there = has_file(disk, place, number);
     let made = disk::make_file(disk, place, number);
-    let Found::At(slot) = made else {
+    let Some(slot) = made else {
         return;
     };
     track_file(disk, session, place, number, there, slot);
@@ -54,10 +53,8 @@ pub fn cover(disk: &mut [u8], session: &mut [u8], place: usize, first: u64, coun
     requires { (Sound disk.old × (session_bytes ≤ length session.old)) × ((place < 8) × (first + count ≤ 2 ^ 64)) }
     ensures { covered (areas disk.old session.old) place first count ≡ areas disk.new session.new }
 {
-    let mut done = 0;
-    while done < count {
+    for done in 0..count {
         make_tracked(disk, session, place, first + done);
-        done += 1;
     }
 }
 
@@ -67,7 +64,7 @@ fn write_piece(disk: &mut [u8], place: usize, number: u64, at: usize, src: &[u8]
     ensures { disk.new ≡ write_piece disk.old place number at src.now }
 {
     let found = disk::find_in(disk, place, number);
-    let Found::At(slot) = found else {
+    let Some(slot) = found else {
         return;
     };
     disk::write_at(disk, slot, at, src);
@@ -82,7 +79,7 @@ pub fn write_run(disk: &mut [u8], place: usize, file_size: u64, offset: u64, src
     while done < src.len() {
         let here = offset + done as u64;
         let left = components::left_in(file_size, here) as usize;
-        let n = octets::smaller(src.len() - done, left);
+        let n = (src.len() - done).min(left);
         let end = done + n;
         write_piece(
             disk,

@@ -1,16 +1,13 @@
 -- A transaction begun: a reader, an append or a truncate. What it makes of the areas is what it makes of the store that is seen; and an append waits here where
 -- it waits there. Assumes nothing.
-use Rattle.std.specs.Prelude.{◌≡◌, ◌≢◌, Bool, true, false, ◌&&◌, List, ◌∷◌, ℕ, suc, ◌+◌, ◌≤◌, ◌<◌, eqb, ltb}
+use Rattle.std.specs.Prelude.{◌≡◌, ◌≢◌, Bool, true, false, ◌&&◌, List, ◌∷◌, ℕ, suc, ◌+◌, ◌≤◌, ◌<◌, eqb, ltb, Option, Some, None, Ok}
 use Rattle.std.proofs.Math.Path.{refl, sym, ap}
 use Rattle.std.proofs.Common.{◌∙◌, subst, true≢false, arith, eq-eqb, ne_eqb, le-ltb}
 use Rattle.std.proofs.Math.Bool.{cond}
 use Rattle.octets.specs.Cases.{decide, equal}
 use Rattle.octets.specs.Number.{Bytes}
-use Rattle.octets.specs.declared.Found.{Found}
-use Rattle.octets.specs.declared.Found.TheVariants.{At, Nothing}
 use Rattle.answers.specs.Answers.{code_of}
-use Rattle.answers.specs.declared.Answer.{Answer}
-use Rattle.answers.specs.declared.Answer.TheVariants.{Done}
+use Rattle.answers.specs.Answers.{Answer}
 use Rattle.components.specs.Epochs.{older}
 use Rattle.layout.specs.NamesLaws.{name-low}
 use Rattle.layout.specs.Session.{names_at, Begun}
@@ -146,9 +143,9 @@ module _ (d s u : List ℕ) (t : ℕ) (k : Kind) (low : t < 17) (some : is_open 
 -- ---- what is seen of it
 
 module _ (s u : List ℕ) (t : ℕ) (k : Kind) (b : Begins s u t k) (n : List ℕ) where
-  own_view : (found : Found) → place_of s n ≡ found → view_in u t found ≡ view_in s 17 found
-  own_view (At p) e = ap shown (b.view p (name-low s names_at n p e))
-  own_view Nothing e = refl
+  own_view : (found : Option ℕ) → place_of s n ≡ found → view_in u t found ≡ view_in s 17 found
+  own_view (Some p) e = ap shown (b.view p (name-low s names_at n p e))
+  own_view None e = refl
 
   old-reader : (x : ℕ) → x < 16 → x ≢ t → reader_in u (place_of s n) x ≡ reader_in s (place_of s n) x
   old-reader x l d = rw (b.others x (omega arith) d, view_in_lem s u (place_of s n) x (λ p at. b.views x p (omega arith) d (name-low s names_at n p at)))
@@ -193,9 +190,9 @@ module _ (d s u : List ℕ) (k : Kind) (free : is_open_at s 16 ≡ false) (some 
   unfolding seen_by
   sees-list p l = rw (bare p l) (b.view p l)
 
-  as-listed : (found : Found) → place_of s n ≡ found → staged_in u found ≡ view_in s 17 found
-  as-listed (At p) e = ap shown (sees-list p (name-low s names_at n p e))
-  as-listed Nothing e = refl
+  as-listed : (found : Option ℕ) → place_of s n ≡ found → staged_in u found ≡ view_in s 17 found
+  as-listed (Some p) e = ap shown (sees-list p (name-low s names_at n p e))
+  as-listed None e = refl
 
   new-writer : writer_in u (place_of s n) ≡ writer_as k (st.last + 1) st.epoch (record { listed = st.listed; len = st.len; start = st.start })
   new-writer = rw (b.own, as-listed (place_of s n) refl, seen.list, seen.last, seen.epoch)
@@ -320,7 +317,7 @@ module _ (d s : List ℕ) (o : Orderly d s) where
 
 -- the next number
 abbrev pub next_done : List ℕ → Answer
-next_done s = Done ((head_of s).last_transaction + 1)
+next_done s = Ok ((head_of s).last_transaction + 1)
 
 module _ (d s : List ℕ) where
   pub reader-done : code_of (reader_call d s).answer ≡ 0 → (reader_call d s).answer ≡ next_done s

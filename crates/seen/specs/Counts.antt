@@ -1,10 +1,11 @@
 -- Laws of the two counts of readers: of those in a list, also by the pages that windows show, and of those in the open places of the table. Whom an append
 -- waits for, and the oldest reader, are the same on both sides. Assumes nothing.
-use Rattle.std.specs.Prelude.{◌≡◌, ◌≢◌, cond, ◌&&◌, length}
+use Rattle.octets.specs.Cases.{some-injective}
+use Rattle.std.proofs.lemmas.Option.{none-some}
+use Rattle.std.specs.Prelude.{◌≡◌, ◌≢◌, cond, ◌&&◌, length, Option, Some}
 use Rattle.std.proofs.Math.Path.{refl}
 use Rattle.std.proofs.Common.{sym, ap, ◌∙◌, ⊎_elim, arith}
 use Rattle.std.proofs.Math.Bool.{Bool, true, false, not, and-false}
-use Rattle.std.proofs.Math.Option.{Option, some, none-ne-some, some-injective}
 use mathlib.Core.List.Memᴰ
 use mathlib.Core.List.{List, [], ◌∷◌, map, Memᴰ}
 use Prim.Native.Nat.{ℕ, zero, suc, ◌+◌, ◌≤◌, ◌<◌}
@@ -12,7 +13,6 @@ use borrow.Author.Tests.{eq-eqb, ne_eqb}
 use Rattle.std.proofs.Math.Dec.{eqb, ltb}
 use Rattle.octets.specs.Cases.{picked, decide, equal, and_l, and_r, and_both}
 use Rattle.octets.specs.First.{count, count_same, count-more}
-use Rattle.octets.specs.declared.Found.{Found}
 use Rattle.components.specs.Epochs.{older, oldest_other}
 use Rattle.components.proofs.EpochsLaws.{none-older, →none-older, oldest-le, oldest-member}
 use Rattle.session.specs.Rows.{head_of, transaction_of}
@@ -75,11 +75,11 @@ find-some k (r ∷ rs) one =
 
 -- a window that shows a page is counted, by whatever such a window has
 pub page-counted : (has : Reader → Bool) (k : ℕ) (q : Page) → ((w : Window) → eqb k w.number ≡ true → page_w w ≡ q → has (erase w) ≡ true)
-    → (ws : List Window) → page_in k ws ≡ some q → 0 < count_in has (map erase ws)
+    → (ws : List Window) → page_in k ws ≡ Some q → 0 < count_in has (map erase ws)
 unfolding page_in
-page-counted has k q hits [] = λ e. absurd (none-ne-some q e)
+page-counted has k q hits [] = λ e. absurd (none-some q e)
 page-counted has k q hits (w ∷ ws) =
-    picked (λ (x : Option Page). x ≡ some q → 0 < count_in has (map erase (w ∷ ws))) (eqb k w.number) (some (page_w w)) (page_in k ws)
+    picked (λ (x : Option Page). x ≡ Some q → 0 < count_in has (map erase (w ∷ ws))) (eqb k w.number) (Some (page_w w)) (page_in k ws)
     (λ m e. omega (arith, in-hit has (erase w) (map erase ws) (hits w m (some-injective _ _ e))))
     (λ m e.
     let rest = page-counted has k q hits ws e in
@@ -113,13 +113,13 @@ count-place p (suc k) i j low high e =
     (λ apart. omega (arith, count-place p k (i + 1) j (omega arith) (omega arith) e))
 
 -- an open place whose reader has it
-pub record AtPlace (has : Reader → Bool) (s : List ℕ) (tape : Found) : Type 0 where
+pub record AtPlace (has : Reader → Bool) (s : List ℕ) (tape : Option ℕ) : Type 0 where
   pub place : ℕ
   pub low : place < 16
   pub opened : is_open_at s place ≡ true
   pub holds : has (reader_in s tape place) ≡ true
 
-module _ (has : Reader → Bool) (s : List ℕ) (tape : Found) where
+module _ (has : Reader → Bool) (s : List ℕ) (tape : Option ℕ) where
   pub open-some : 0 < count_open has s tape → AtPlace has s tape
   unfolding count_open
   open-some one =
@@ -138,11 +138,11 @@ module _ (has : Reader → Bool) (s : List ℕ) (tape : Found) where
       count-place (λ x. is_open_at s x && has (reader_in s tape x)) 16 0 t (omega arith) (omega arith) (and_both (is_open_at s t) (has (reader_in s tape t)) opened holds)
 
 -- the other places are as they were
-pub record Others (s u : List ℕ) (tape : Found) (t : ℕ) : Type 0 where
+pub record Others (s u : List ℕ) (tape : Option ℕ) (t : ℕ) : Type 0 where
   pub opens : (x : ℕ) → x < 16 → x ≢ t → is_open_at u x ≡ is_open_at s x
   pub readers : (x : ℕ) → x < 16 → x ≢ t → reader_in u tape x ≡ reader_in s tape x
 
-module _ (has : Reader → Bool) (s u : List ℕ) (tape : Found) (t : ℕ) (low : t < 16) (others : Others s u tape t) where
+module _ (has : Reader → Bool) (s u : List ℕ) (tape : Option ℕ) (t : ℕ) (low : t < 16) (others : Others s u tape t) where
   -- one more reader, in a place that was free
   pub open_more : (r : Reader) → is_open_at s t ≡ false → is_open_at u t ≡ true → reader_in u tape t ≡ r
       → count_open has u tape ≡ cond (has r) (suc (count_open has s tape)) (count_open has s tape)
@@ -184,7 +184,7 @@ unfolding older count_in
 older-in e [] = refl
 older-in e (r ∷ rs) = rw (older-in e rs)
 
-pub waits-open : (s : List ℕ) (e : ℕ) (tape : Found) → waiting_for s e ≡ count_open (λ r. ltb r.epoch e) s tape
+pub waits-open : (s : List ℕ) (e : ℕ) (tape : Option ℕ) → waiting_for s e ≡ count_open (λ r. ltb r.epoch e) s tape
 unfolding waiting_for is_older count_open
 waits-open s e tape = refl
 

@@ -1,12 +1,10 @@
 -- `truncate_tape`, `drop_entries` and `pop_entry` are the model's `cut`, each to its length. Assumes nothing.
-use Rattle.std.specs.Prelude.{◌≡◌, ◌≢◌, Bool, true, List, ℕ, ◌*◌, ◌-◌, ◌/◌, ◌≤◌, ◌<◌}
+use Rattle.std.specs.Prelude.{◌≡◌, ◌≢◌, Bool, true, List, ℕ, ◌*◌, ◌-◌, ◌/◌, ◌≤◌, ◌<◌, Some, Ok}
 use Rattle.std.proofs.Math.Path.{refl, sym, ap}
 use Rattle.std.proofs.Common.{◌∙◌, subst, div-le_self, eq-eqb, le-leb}
 use native.Mathlib.Omega.{arith}
-use Rattle.octets.specs.declared.Found.TheVariants.{At}
 use Rattle.answers.specs.Answers.{code_of}
 use Rattle.answers.specs.Outcome.{Popping}
-use Rattle.answers.specs.declared.OneEntry.TheVariants.{Entry}
 use Rattle.components.specs.BoundsLaws.{up_to-true}
 use Rattle.layout.specs.Session.{handle_number, entry_size_of}
 use Rattle.session.specs.declared.tape_rows.Staged.{Staged}
@@ -49,7 +47,7 @@ pub record CutsTo (s : List ℕ) (k h : ℕ) (u : List ℕ) : Type 0 where
   pub tape : ℕ
   pub to : ℕ
   pub is : u ≡ cut_to s tape to
-  pub found : find_handle s h ≡ At tape
+  pub found : find_handle s h ≡ Some tape
   pub writer : cuts s k ≡ true
   pub listed : (seen_by s 16 tape).listed ≡ true
   pub within : to ≤ (touched_as s tape).len
@@ -86,7 +84,7 @@ module _ (d s : List ℕ) (o : Orderly d s) (k h : ℕ) (u : List ℕ) (c : Cuts
   pub cuts-on : OnHandle d s d u h
   cuts-on = rw cut-is (on-handle d s o h p row cut-put)
 
-  pub cuts-own : (n : List ℕ) → place_of s n ≡ At c.tape → (t : Told) (x : Phys) → Good t x → Seen d s n (build t x) → Leads d u n (step (cut k c.to) (build t x)) 0
+  pub cuts-own : (n : List ℕ) → place_of s n ≡ Some c.tape → (t : Told) (x : Phys) → Good t x → Seen d s n (build t x) → Leads d u n (step (cut k c.to) (build t x)) 0
   cuts-own n at t x good seen =
       let st = build t x in
       let live = its-live d s n o p at held st seen in
@@ -191,10 +189,10 @@ record Pops (d s : List ℕ) (k h : ℕ) (out : List ℕ) (i : ℕ) : Type 0 whe
   index : last s place ≡ i
 
 -- a pop that has none changes nothing (`entries/specs/Laws.antt`, `pop-none`)
-module _ (d s : List ℕ) (k h : ℕ) (out : List ℕ) (i : ℕ) (served : (pop_call d s k h out).answer ≡ Entry i) where
+module _ (d s : List ℕ) (k h : ℕ) (out : List ℕ) (i : ℕ) (served : (pop_call d s k h out).answer ≡ Ok (Some i)) where
   pop-found : Pops d s k h out i
   pop-found =
-      pop-cases (λ (a : Popping). a.answer ≡ Entry i → Pops d s k h out i) d s k h out (λ a not e. absurd (not i e))
+      pop-cases (λ (a : Popping). a.answer ≡ Ok (Some i) → Pops d s k h out i) d s k h out (λ a not e. absurd (not i e))
       (λ p g e. record { place = p; goes = g; index = cc }) served
 
   pub pop-to : CutsTo s k h (pop_call d s k h out).session

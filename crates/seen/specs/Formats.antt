@@ -1,6 +1,6 @@
 -- A `format` that is served leaves an empty disk and no session; a `store` that is served on an empty disk, whatever session area is lent, is orderly, and
 -- of every tape is seen the store that `lives` begins with. Assumes nothing.
-use Rattle.std.specs.Prelude.{◌≡◌, refl, false, ℕ, zero, suc, ◌+◌, ◌<◌, take}
+use Rattle.std.specs.Prelude.{◌≡◌, refl, false, ℕ, zero, suc, ◌+◌, ◌<◌, take, None}
 use Rattle.std.proofs.Math.Path.{sym, ap}
 use Rattle.std.proofs.Common.{◌∙◌, arith}
 use Rattle.std.proofs.lemmas.Bool.{false≢true}
@@ -12,7 +12,6 @@ use Rattle.octets.specs.First.{first-never}
 use Rattle.octets.specs.Number.{Bytes}
 use Rattle.octets.specs.Only.{bytes-put_num}
 use Rattle.octets.specs.Words.{table-in}
-use Rattle.octets.specs.declared.Found.TheVariants.{Nothing}
 use Rattle.answers.specs.Answers.{code_of}
 use Rattle.metadata.specs.Choice.{part_of, left_counts, chosen, chosen_epoch, chosen_list}
 use Rattle.metadata.specs.Decoding.{tapes}
@@ -80,7 +79,7 @@ module _ (d : List ℕ) (k : ℕ) (empty : disk_of d ≡ blank k) where
   list-none = rw record-none (none_list [] (omega arith))
 
   -- no name has a directory
-  no-folder : (n : List ℕ) → 0 < length n → find_name d directories n ≡ Nothing
+  no-folder : (n : List ℕ) → 0 < length n → find_name d directories n ≡ None
   unfolding find_name
   no-folder n long =
       first-never (λ i. same_bytes (name d directories i) n) 8 0

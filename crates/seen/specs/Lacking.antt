@@ -1,5 +1,5 @@
 -- Files that staged bytes lack (rule of 15): over a later part of a run, of one tape, of one tape among all, and of all. Assumes nothing.
-use Rattle.std.specs.Prelude.{◌≡◌, ◌≢◌, true, false, List, eqb}
+use Rattle.std.specs.Prelude.{◌≡◌, ◌≢◌, true, false, List, eqb, Option, Some, None}
 use Rattle.std.proofs.Math.Path.{refl}
 use Rattle.std.proofs.Common.{sym, ap, ◌∙◌}
 use Prim.Native.Nat.{ℕ, zero, suc, ◌+◌, ◌≤◌, ◌<◌}
@@ -12,8 +12,6 @@ use Rattle.components.proofs.SlotsLaws.{covered_none, lacking-empty, lacking-sam
 use Rattle.layout.specs.Disk.{slots}
 use Rattle.disk.specs.Steps.{files}
 use Rattle.appending.specs.Room.{lacking_of, lacking_all, no_room, low_of, end_of, lacking_in}
-use Rattle.octets.specs.declared.Found.{Found}
-use Rattle.octets.specs.declared.Found.TheVariants.{At, Nothing}
 use Rattle.layout.specs.Session.{handle_number, file_size_of}
 use Rattle.session.specs.declared.tape_rows.Staged.{Staged}
 use Rattle.session.specs.Rows.{view_of, handle_of, staged_of}
@@ -43,9 +41,9 @@ module _ (d s : List ℕ) (to more : ℕ) where
 -- ---- one tape
 
 -- no bytes lack no file
-pub none-lacking : (d : List ℕ) (fs low end : ℕ) (place : Found) → end ≤ low → lacking_in d fs low end place ≡ 0
-none-lacking d fs low end (At place) l = rw (covered_none fs low end l) (lacking-empty (on_disk d place) (file_of fs low))
-none-lacking d fs low end Nothing l = covered_none fs low end l
+pub none-lacking : (d : List ℕ) (fs low end : ℕ) (place : Option ℕ) → end ≤ low → lacking_in d fs low end place ≡ 0
+none-lacking d fs low end (Some place) l = rw (covered_none fs low end l) (lacking-empty (on_disk d place) (file_of fs low))
+none-lacking d fs low end None l = covered_none fs low end l
 
 module _ (d s : List ℕ) (q : ℕ) (small : q < 8) where
   pub shut-lacking : handle_number s q ≡ 0 → lacking_of d s 8 0 q ≡ 0
@@ -91,7 +89,7 @@ pub record SameLack (d s e u : List ℕ) (q : ℕ) : Type 0 where
   pub len : (touched_as u q).len ≡ (touched_as s q).len
   pub unwritten : (touched_as u q).unwritten ≡ (touched_as s q).unwritten
   pub folder : directory_of e u q ≡ directory_of d s q
-  pub there : (place : ℕ) → directory_of d s q ≡ At place → (j : ℕ) → on_disk e place j ≡ on_disk d place j
+  pub there : (place : ℕ) → directory_of d s q ≡ Some place → (j : ℕ) → on_disk e place j ≡ on_disk d place j
 
 pub same-lacking : (d s e u : List ℕ) (q : ℕ) → q < 8 → (handle_number s q ≢ 0 → SameLack d s e u q) → handle_number u q ≡ handle_number s q
     → lacking_of e u 8 0 q ≡ lacking_of d s 8 0 q
@@ -104,12 +102,12 @@ same-lacking d s e u q small same number =
     ∙ rw (r.base, r.len, r.unwritten, r.folder, size-row s u q r.handle) (by r.there (directory_of d s q) refl)
     ∙ sym (open-lacking d s q small held))
   where
-    by : ((place : ℕ) → directory_of d s q ≡ At place → (j : ℕ) → on_disk e place j ≡ on_disk d place j) → (found : Found) → directory_of d s q ≡ found
+    by : ((place : ℕ) → directory_of d s q ≡ Some place → (j : ℕ) → on_disk e place j ≡ on_disk d place j) → (found : Option ℕ) → directory_of d s q ≡ found
         → lacking_in e (file_size_of s q) (low_of (touched_as s q)) (end_of (touched_as s q) 0) found ≡ lacking_in d (file_size_of s q) (low_of (touched_as s q)) (end_of (touched_as s q) 0) found
-    by there (At place) at =
+    by there (Some place) at =
         lacking-same (on_disk d place) (on_disk e place) (file_of (file_size_of s q) (low_of (touched_as s q))) (covered (file_size_of s q) (low_of (touched_as s q)) (end_of (touched_as s q) 0))
         (λ j l m. there place at j)
-    by there Nothing at = refl
+    by there None at = refl
 
 -- ---- all tapes
 

@@ -1,10 +1,8 @@
 -- A call that opens or closes a transaction leaves the tapes: names, list, handles, caches and files are as before. What is left to show of it then are the
 -- transactions and what is staged. Assumes nothing.
-use Rattle.std.specs.Prelude.{◌≡◌, refl, ◌≢◌, Bool, true, false, List, ℕ, ◌≤◌, ◌<◌}
+use Rattle.std.specs.Prelude.{◌≡◌, refl, ◌≢◌, Bool, true, false, List, ℕ, ◌≤◌, ◌<◌, Option, Some, None}
 use Rattle.std.proofs.Common.{sym, ap, ◌∙◌, arith}
 use Rattle.octets.specs.Number.{Bytes}
-use Rattle.octets.specs.declared.Found.{Found}
-use Rattle.octets.specs.declared.Found.TheVariants.{At, Nothing}
 use Rattle.layout.specs.Names.{name, find_name}
 use Rattle.layout.specs.NamesLaws.{name-low}
 use Rattle.layout.specs.Disk.{directories}
@@ -90,9 +88,9 @@ module _ (s u : List ℕ) (left : Leaves s u) (n : List ℕ) where
   pub left-list : view_in u 17 (place_of u n) ≡ view_in s 17 (place_of s n)
   left-list = view-rows s u n left-place 17 (λ p at. left.list p (name-low s names_at n p at))
 
-  pub left-files : (d : List ℕ) (found : Found) → files_in d u found ≡ files_in d s found
-  left-files d (At place) = ap (λ (rows : ℕ → Tracking). files_of (disk_of d) rows place) left.tracking
-  left-files d Nothing = refl
+  pub left-files : (d : List ℕ) (found : Option ℕ) → files_in d u found ≡ files_in d s found
+  left-files d (Some place) = ap (λ (rows : ℕ → Tracking). files_of (disk_of d) rows place) left.tracking
+  left-files d None = refl
 
   pub left-handled : (handle entry : ℕ) → Handled s n handle entry → Handled u n handle entry
   left-handled = handled-rows s u n left-place (λ p at. left.handles p (name-low s names_at n p at))
@@ -102,7 +100,7 @@ module _ (s u : List ℕ) (left : Leaves s u) (n : List ℕ) where
       → ((has : Reader → Bool) → count_open has u (place_of s n) ≡ count_in has rs)
       → writer_in u (place_of s n) ≡ w
       → touched_in u (place_of s n) ≡ touched
-      → ((p : ℕ) → p < 8 → place_of s n ≡ At p → st.live ≡ true → StagedFor u st p)
+      → ((p : ℕ) → p < 8 → place_of s n ≡ Some p → st.live ≡ true → StagedFor u st p)
       → Seen d u n (then a last st rs w touched st.live st.held).store
   seen-then d st a last rs w touched seen number readers writer touches staged =
       record {
@@ -116,7 +114,7 @@ module _ (s u : List ℕ) (left : Leaves s u) (n : List ℕ) where
         live = live-rows s u n left-place (λ p at. left.handles p (name-low s names_at n p at)) ∙ seen.live;
         files = left-files d (find_name d directories n) ∙ seen.files;
         opened = λ p found live.
-            let there : place_of s n ≡ At p = sym left-place ∙ found in
+            let there : place_of s n ≡ Some p = sym left-place ∙ found in
             let low = name-low s names_at n p there in
             let o = seen.opened p there live in
             let now = staged p low there live in

@@ -1,6 +1,6 @@
 -- The list that a commit writes says of every name what the session then says; and what leaves the record, the epoch and the list leaves that so. Assumes
 -- nothing.
-use Rattle.std.specs.Prelude.{◌≡◌, Bool, true, false, ℕ, ◌≤◌, ◌<◌, length}
+use Rattle.std.specs.Prelude.{◌≡◌, Bool, true, false, ℕ, ◌≤◌, ◌<◌, length, Option, Some, None}
 use Rattle.std.proofs.Math.Path.{refl}
 use Rattle.std.proofs.Common.{sym, ap, ◌∙◌, ⊎_elim, true≢false, arith}
 use mathlib.Core.List.Memᴰ
@@ -8,8 +8,6 @@ use mathlib.Core.List.{List, [], ◌∷◌, Memᴰ}
 use Rattle.octets.specs.Cases.{decide, order}
 use Rattle.octets.specs.Compare.{same_bytes, same_true, same_refl, comes_before}
 use Rattle.octets.specs.First.{first}
-use Rattle.octets.specs.declared.Found.{Found}
-use Rattle.octets.specs.declared.Found.TheVariants.{At, Nothing}
 use Rattle.answers.specs.Answers.{code_of}
 use Rattle.answers.specs.Outcome.{Outcome}
 use Rattle.metadata.specs.Choice.{chosen_epoch, chosen_list}
@@ -111,9 +109,9 @@ module _ (d s : List ℕ) (o : Orderly d s) (running : is_open_at s 16 ≡ true)
   -- ---- the list's word on a name is what is published of its tape
 
   -- what is published of the tape in a place
-  abbrev pub published_in : Found → View
-  published_in (At p) = shown (published s cut p)
-  published_in Nothing = no_view
+  abbrev pub published_in : Option ℕ → View
+  published_in (Some p) = shown (published s cut p)
+  published_in None = no_view
 
   module _ (n : List ℕ) (some : 0 < length n) where
     -- a tape of the list that has the name is published from a place of that name
@@ -130,8 +128,8 @@ module _ (d s : List ℕ) (o : Orderly d s) (running : is_open_at s 16 ≡ true)
     pub next-says : listed_as n (next_list s cut) ≡ published_in (place_of s n)
     next-says = by (place_of s n) refl
       where
-        by : (found : Found) → place_of s n ≡ found → listed_as n (next_list s cut) ≡ published_in found
-        by (At p) e =
+        by : (found : Option ℕ) → place_of s n ≡ found → listed_as n (next_list s cut) ≡ published_in found
+        by (Some p) e =
             let low = name-low s names_at n p e in
             let has = found_name s names_at n p e in
             decide (published s cut p).listed
@@ -147,7 +145,7 @@ module _ (d s : List ℕ) (o : Orderly d s) (running : is_open_at s 16 ≡ true)
             true≢false
             (sym (next-only s cut m).listed ∙ ap (λ (k : ℕ). (published s cut k).listed) (from_place p low has t m q) ∙ unlisted))
             ∙ sym (shown-none (published s cut p) unlisted))
-        by Nothing e =
+        by None e =
             listed-none n (next_list s cut)
             (λ t m q. not_found s names_at n e (next-only s cut m).place (next-only s cut m).low (from_named t m q))
 
@@ -182,10 +180,10 @@ commit-recorded d s o t served =
           ∙ sym (ap (view_in u 17) (place-names s u names_at n left.tapes));
     }
   where
-    same : (n : List ℕ) (found : Found) → place_of s n ≡ found
+    same : (n : List ℕ) (found : Option ℕ) → place_of s n ≡ found
         → published_in d s o (commit-open d s t served) (cuts s t) found ≡ view_in (commit_call d s t).session 17 found
-    same n (At p) e = ap shown (sym ((commit-published d s o.session-bytes t served).list p (name-low s names_at n p e)))
-    same n Nothing e = refl
+    same n (Some p) e = ap shown (sym ((commit-published d s o.session-bytes t served).list p (name-low s names_at n p e)))
+    same n None e = refl
 
 -- ---- what leaves it so
 

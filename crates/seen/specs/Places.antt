@@ -1,5 +1,5 @@
 -- Where a tape's name is found, in the session and on the disk. Assumes nothing.
-use Rattle.std.specs.Prelude.{◌≡◌, true, ℕ, ◌<◌}
+use Rattle.std.specs.Prelude.{◌≡◌, true, ℕ, ◌<◌, Some, None}
 use Rattle.std.proofs.Common.{sym, ◌∙◌, arith}
 use Rattle.std.proofs.Math.Path.{ap}
 use Rattle.std.proofs.Math.Bool.{true≢false}
@@ -7,21 +7,20 @@ use mathlib.Core.List.{List}
 use Rattle.octets.specs.Cases.{decide}
 use Rattle.octets.specs.Compare.{same_bytes, same_true, same_refl}
 use Rattle.octets.specs.First.{first-same, first-at, first-hits, first-misses}
-use Rattle.octets.specs.declared.Found.TheVariants.{At, Nothing}
 use Rattle.layout.specs.Names.{name, find_name}
 
 module _ (s : List ℕ) (base : ℕ) (n : List ℕ) where
-  pub found_name : (p : ℕ) → find_name s base n ≡ At p → name s base p ≡ n
+  pub found_name : (p : ℕ) → find_name s base n ≡ Some p → name s base p ≡ n
   unfolding find_name
   found_name p e = same_true (name s base p) n (first-hits (λ i. same_bytes (name s base i) n) 8 0 p e).holds
 
-  pub not_found : find_name s base n ≡ Nothing → (p : ℕ) → p < 8 → name s base p ≡ n → ⊥
+  pub not_found : find_name s base n ≡ None → (p : ℕ) → p < 8 → name s base p ≡ n → ⊥
   unfolding find_name
   not_found e p low same =
       true≢false (sym (ap (λ (x : List ℕ). same_bytes x n) same ∙ same_refl n) ∙ first-misses (λ i. same_bytes (name s base i) n) 8 0 e p (omega arith) (omega arith))
 
   -- where it stands, if it stands nowhere else
-  pub found_at : (p : ℕ) → p < 8 → name s base p ≡ n → ((q : ℕ) → q < 8 → name s base q ≡ n → q ≡ p) → find_name s base n ≡ At p
+  pub found_at : (p : ℕ) → p < 8 → name s base p ≡ n → ((q : ℕ) → q < 8 → name s base q ≡ n → q ≡ p) → find_name s base n ≡ Some p
   unfolding find_name
   found_at p low same alone =
       first-at (λ i. same_bytes (name s base i) n) 8 0 p

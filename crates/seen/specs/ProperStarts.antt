@@ -1,16 +1,12 @@
 -- A `store` that is served keeps `Proper`: its names are those of the list that it read, and the session before had listed each of them. On an empty disk
 -- there is no name at all. Assumes nothing.
-use Rattle.std.specs.Prelude.{◌≡◌, refl, true, false, ◌&&◌, List, [], ◌∷◌, ℕ, zero, suc, ◌<◌, leb, length}
+use Rattle.std.specs.Prelude.{◌≡◌, refl, true, false, ◌&&◌, List, [], ◌∷◌, ℕ, zero, suc, ◌<◌, leb, length, Option, Some, None, slice_get}
 use Rattle.std.proofs.Common.{sym, ◌∙◌, true≢false, arith}
 use Rattle.std.proofs.Math.Path.{ap}
 use Rattle.std.proofs.lemmas.Bool.{false≢true}
-use Rattle.std.proofs.Math.Option.{Option, none, some}
-use Rattle.std.proofs.Math.ListN.{get_elem?}
 use Rattle.octets.specs.Cases.{decide, and_l, and_r}
 use Rattle.octets.specs.Compare.{same_bytes, same_refl, comes_before}
 use Rattle.octets.specs.Number.{Bytes}
-use Rattle.octets.specs.declared.Found.{Found}
-use Rattle.octets.specs.declared.Found.TheVariants.{At, Nothing}
 use Rattle.answers.specs.Answers.{code_of}
 use Rattle.metadata.specs.Choice.{chosen_list}
 use Rattle.metadata.specs.Name.{name_rule}
@@ -43,12 +39,12 @@ fits-rule : (before : List ℕ) (t : Tape) → fits before t ≡ true → name_r
 unfolding fits
 fits-rule before t e = and_l (name_rule t.name) (leb t.start t.len) (and_r (comes_before before t.name) (name_rule t.name && leb t.start t.len) e)
 
-rule-in : (before : List ℕ) (ts : List Tape) → good_after before ts ≡ true → (i : ℕ) (t : Tape) → get_elem? ts i ≡ some t → name_rule t.name ≡ true
+rule-in : (before : List ℕ) (ts : List Tape) → good_after before ts ≡ true → (i : ℕ) (t : Tape) → slice_get ts i ≡ Some t → name_rule t.name ≡ true
 rule-in before [] good i t e = let z : ◌≡◌ {A = ℕ} 0 1 = cc in absurd (omega arith)
 rule-in before (x ∷ xs) good zero t e = let same : x ≡ t = cc in rw (← same) (fits-rule before x (good-first before x xs good))
 rule-in before (x ∷ xs) good (suc i) t e = rule-in x.name xs (good_others before x xs good) i t e
 
-listed_in : (ts : List Tape) (i : ℕ) (t : Tape) → get_elem? ts i ≡ some t → (listed_as t.name ts).listed ≡ true
+listed_in : (ts : List Tape) (i : ℕ) (t : Tape) → slice_get ts i ≡ Some t → (listed_as t.name ts).listed ≡ true
 unfolding listed_as
 listed_in [] i t e = let z : ◌≡◌ {A = ℕ} 0 1 = cc in absurd (omega arith)
 listed_in (x ∷ xs) zero t e = let same : x ≡ t = cc in rw (same, same_refl t.name)
@@ -74,7 +70,7 @@ module _ (d area : List ℕ) (bytes : Bytes d) (served : code_of (store_call d a
     named : 0 < length (name u names_at p)
     listed : (listed_as (name u names_at p) ts).listed ≡ true
 
-  tape-listed : (p : ℕ) → p < 8 → (t : Tape) → get_elem? ts p ≡ some t → Listed p
+  tape-listed : (p : ℕ) → p < 8 → (t : Tape) → slice_get ts p ≡ Some t → Listed p
   tape-listed p low t e =
       let has : name u names_at p ≡ t.name = name-stored d area bytes served p low ∙ ap name_of e in
       record {
@@ -86,11 +82,11 @@ module _ (d area : List ℕ) (bytes : Bytes d) (served : code_of (store_call d a
   named-listed p low long = let it = named-tape d area bytes served p low long in tape-listed p low it.tape it.at
 
   seen-listed : (p : ℕ) → p < 8 → (view_of u 17 p).listed ≡ true → Listed p
-  seen-listed p low listed = by (get_elem? ts p) refl
+  seen-listed p low listed = by (slice_get ts p) refl
     where
-      by : (o : Option Tape) → get_elem? ts p ≡ o → Listed p
-      by none e = absurd (true≢false (sym listed ∙ ap (λ (v : View). v.listed) (list-stored d area bytes served p low ∙ ap view_for e)))
-      by (some t) e = tape-listed p low t e
+      by : (o : Option Tape) → slice_get ts p ≡ o → Listed p
+      by None e = absurd (true≢false (sym listed ∙ ap (λ (v : View). v.listed) (list-stored d area bytes served p low ∙ ap view_for e)))
+      by (Some t) e = tape-listed p low t e
 
   -- ---- a session ran before, in s; area is whatever is then lent as the session: the same, or another
 
@@ -117,25 +113,25 @@ module _ (d area : List ℕ) (bytes : Bytes d) (served : code_of (store_call d a
             ∙ ap (λ (l : List Tape). (listed_as n l).listed) (sym lists)
             ∙ st.listed
 
-        by : (f : Found) → place_of s n ≡ f → Was n
-        by (At q) e =
+        by : (f : Option ℕ) → place_of s n ≡ f → Was n
+        by (Some q) e =
             record {
               place = q;
               low = name-low s names_at n q e;
               same = found_name s names_at n q e;
-              listed = sym (shown-keeps (view_of s 17 q)) ∙ (sym (ap (λ (f : Found). (view_in s 17 f).listed) e) ∙ word);
+              listed = sym (shown-keeps (view_of s 17 q)) ∙ (sym (ap (λ (f : Option ℕ). (view_in s 17 f).listed) e) ∙ word);
             }
-        by Nothing e = absurd (false≢true (sym (ap (λ (f : Found). (view_in s 17 f).listed) e) ∙ word))
+        by None e = absurd (false≢true (sym (ap (λ (f : Option ℕ). (view_in s 17 f).listed) e) ∙ word))
 
     names-proper : Proper d s → Proper d (store_call d area).session
     names-proper proper =
         record {
-          rule = λ p low some.
-              let w = was p (named-listed p low some) in
-              rw w.same at (proper.rule w.place w.low (rw w.same some));
-          unreserved = λ p low some.
-              let w = was p (named-listed p low some) in
-              rw w.same at (proper.unreserved w.place w.low (rw w.same some));
+          rule = λ p low Some.
+              let w = was p (named-listed p low Some) in
+              rw w.same at (proper.rule w.place w.low (rw w.same Some));
+          unreserved = λ p low Some.
+              let w = was p (named-listed p low Some) in
+              rw w.same at (proper.unreserved w.place w.low (rw w.same Some));
           housed = λ p low listed.
               let w = was p (seen-listed p low listed) in
               rw w.same at (proper.housed w.place w.low w.listed);
@@ -155,8 +151,8 @@ module _ (d area : List ℕ) (bytes : Bytes d) (served : code_of (store_call d a
     none-proper : Proper d (store_call d area).session
     none-proper =
         record {
-          rule = λ p low some. none-listed p (named-listed p low some);
-          unreserved = λ p low some. none-listed p (named-listed p low some);
+          rule = λ p low Some. none-listed p (named-listed p low Some);
+          unreserved = λ p low Some. none-listed p (named-listed p low Some);
           housed = λ p low listed. none-listed p (seen-listed p low listed);
         }
 

@@ -1,14 +1,11 @@
 -- A put that is served leaves room for every file that the open append lacks: what it makes was counted (rule of 15). And no put is refused for want of a
 -- directory. Assumes nothing.
-use Rattle.std.specs.Prelude.{◌≡◌, refl, ◌≢◌, true, List, ℕ, ◌+◌, ◌%◌, ◌≤◌, ◌<◌, eqb, ltb, length}
+use Rattle.std.specs.Prelude.{◌≡◌, refl, ◌≢◌, true, List, ℕ, ◌+◌, ◌%◌, ◌≤◌, ◌<◌, eqb, ltb, length, Option, Some, None, Err}
 use Rattle.std.proofs.Common.{sym, ap, ◌∙◌, true≢false, arith}
 use Rattle.octets.specs.Cases.{picked}
 use Rattle.octets.specs.Number.{Bytes}
-use Rattle.octets.specs.declared.Found.{Found}
-use Rattle.octets.specs.declared.Found.TheVariants.{At, Nothing}
 use Rattle.answers.specs.Answers.{code_of}
 use Rattle.answers.specs.Outcome.{Outcome}
-use Rattle.answers.specs.declared.Answer.TheVariants.{Refused}
 use Rattle.answers.specs.declared.Refusal.TheVariants.{Missing}
 use Rattle.components.specs.Pieces.{file_of}
 use Rattle.components.specs.PiecesLaws.{file-mono}
@@ -69,7 +66,7 @@ module _ (d s : List ℕ) (o : Orderly d s) (k h : ℕ) (bs : List ℕ) (bytes :
   open handle-found s h p g.found use {low, held}
 
   -- an open tape in another place has another directory
-  folder-apart : (q : ℕ) → q < 8 → q ≢ p → handle_number s q ≢ 0 → (there : ℕ) → directory_of d s q ≡ At there → there ≢ place
+  folder-apart : (q : ℕ) → q < 8 → q ≢ p → handle_number s q ≢ 0 → (there : ℕ) → directory_of d s q ≡ Some there → there ≢ place
   folder-apart q small apart opened there at same =
       let named : 0 < length (name s names_at q) = open-named d s o q small opened in
       let theirs : name d directories there ≡ name s names_at q = found_name d directories (name s names_at q) there at in
@@ -142,19 +139,19 @@ module _ (d s : List ℕ) (o : Orderly d s) (k h : ℕ) (bs : List ℕ) (bytes :
       (put_in-roomy d s o k h bs bytes found.tape found.place found.goes (put-inside d s o k h bs bytes served n entry its t x good seen))
 
 -- an open tape has its directory: no put is refused with 16
-pub put-there : (d s : List ℕ) → Orderly d s → (k h : ℕ) (bs : List ℕ) → (put_call d s k h bs).answer ≢ Refused Missing
+pub put-there : (d s : List ℕ) → Orderly d s → (k h : ℕ) (bs : List ℕ) → (put_call d s k h bs).answer ≢ Err Missing
 unfolding put_call append_on put_on
 put-there d s o k h bs e = code (ap code_of e)
   where
     P : Outcome → Type 0
     P a = code_of a.answer ≢ 16
 
-    into : (p : ℕ) → is_found (directory_of d s p) ≡ true → (found : Found) → directory_of d s p ≡ found → P (put_where d s p bs found)
-    into p there (At place) at = picked P (no_room d s p (length bs)) _ _ (λ full z. omega arith) (λ room z. omega arith)
-    into p there Nothing at = absurd (true≢false (sym there ∙ ap is_found at))
+    into : (p : ℕ) → is_found (directory_of d s p) ≡ true → (found : Option ℕ) → directory_of d s p ≡ found → P (put_where d s p bs found)
+    into p there (Some place) at = picked P (no_room d s p (length bs)) _ _ (λ full z. omega arith) (λ room z. omega arith)
+    into p there None at = absurd (true≢false (sym there ∙ ap is_found at))
 
-    on : (found : Found) → find_handle s h ≡ found → P (append_in d s bs found)
-    on (At p) at =
+    on : (found : Option ℕ) → find_handle s h ≡ found → P (append_in d s bs found)
+    on (Some p) at =
         picked P (seen_by s 16 p).listed _ _
         (λ l.
         picked P (eqb (length bs % entry_size_of s p) 0) _ _
@@ -163,7 +160,7 @@ put-there d s o k h bs e = code (ap code_of e)
         (λ f. let held = handle-found s h p at in into p (o.folder p held.low held.held) (directory_of d s p) refl))
         (λ w z. omega arith))
         (λ l z. omega arith)
-    on Nothing at = λ z. omega arith
+    on None at = λ z. omega arith
 
     code : code_of (put_call d s k h bs).answer ≢ 16
     code = picked P (usable d s) _ _ (λ ok. picked P (writes s k) _ _ (λ w. on (find_handle s h) refl) (λ w z. omega arith)) (λ ok z. omega arith)

@@ -1,14 +1,12 @@
 -- `append_entries` is the model's `put`: of the handle's tape the staged record, the cache and the files change as the model says, and of every other tape
 -- nothing is seen to change. Assumes nothing.
-use Rattle.std.specs.Prelude.{◌≡◌, ◌≢◌, Bool, true, List, ℕ, ◌+◌, ◌/◌, ◌≤◌, ◌<◌, ◌^◌}
+use Rattle.std.specs.Prelude.{◌≡◌, ◌≢◌, Bool, true, List, ℕ, ◌+◌, ◌/◌, ◌≤◌, ◌<◌, ◌^◌, Option, Some, None}
 use Rattle.std.proofs.Math.Path.{refl}
 use Rattle.std.proofs.Common.{sym, ap, ◌∙◌, subst}
 use native.Mathlib.Omega.{arith}
 use borrow.Author.Tests.{eq-eqb, ne_eqb, le-ltb}
 use Rattle.std.proofs.Math.ListN.{length}
 use Rattle.octets.specs.Number.{Bytes}
-use Rattle.octets.specs.declared.Found.{Found}
-use Rattle.octets.specs.declared.Found.TheVariants.{At, Nothing}
 use Rattle.answers.specs.Answers.{code_of}
 use Rattle.answers.specs.Outcome.{Outcome}
 use Rattle.answers.specs.declared.Answer.TheVariants as Real
@@ -57,7 +55,7 @@ use Rattle.joins.proofs.Ranges.{lacking-last}
 -- ---- the model's
 
 model-put : (st : Store) (k began len start : ℕ) (bs : List ℕ) → st.writer ≡ appending k began true len start → st.live ≡ true → len + length bs ≤ 0xffff_ffff_ffff_ffff
-    → step (put k bs) st ≡ then (Done len) st.last st st.readers (appending k began true (len + length bs) start) true st.live (put_held st.size len st.held bs)
+    → step (put k bs) st ≡ then (Ok len) st.last st st.readers (appending k began true (len + length bs) start) true st.live (put_held st.size len st.held bs)
 unfolding step
 model-put st k began len start bs writer live fits = rw (writer, eq-eqb k k refl, live, le-ltb 0xffff_ffff_ffff_ffff (len + length bs) fits)
 
@@ -159,19 +157,19 @@ module _ (d s : List ℕ) (o : Orderly d s) (k h : ℕ) (bs : List ℕ) (bytes :
   put-folder n = find-same d behind.disk directories directories n put-frame.folders
 
   -- the tape of another handle has another directory
-  folder-apart : (n : List ℕ) (h' entry q : ℕ) → Handled s n h' entry → h' ≢ h → find_name d directories n ≡ At q → q ≢ place
+  folder-apart : (n : List ℕ) (h' entry q : ℕ) → Handled s n h' entry → h' ≢ h → find_name d directories n ≡ Some q → q ≢ place
   folder-apart n h' entry q its apart at e =
       let mine : name d directories place ≡ name s names_at p = found_name d directories (name s names_at p) place g.on.there in
       let same : name s names_at p ≡ n = sym mine ∙ ap (name d directories) (sym e) ∙ found_name d directories n q at in
-      let found : place_of s n ≡ At p = subst (λ (m : List ℕ). place_of s m ≡ At p) same (handle-at d s o h p g.found) in
+      let found : place_of s n ≡ Some p = subst (λ (m : List ℕ). place_of s m ≡ Some p) same (handle-at d s o h p g.found) in
       apart (sym its.number ∙ ap (handle_in s) found ∙ handle-number s h p g.found)
 
   other-files : (n : List ℕ) (h' entry : ℕ) → Handled s n h' entry → h' ≢ h → files_for behind.disk behind.session n ≡ files_for d s n
   other-files n h' entry its apart = ap (files_in behind.disk behind.session) (put-folder n) ∙ by (find_name d directories n) refl
     where
-      by : (found : Found) → find_name d directories n ≡ found → files_in behind.disk behind.session found ≡ files_in d s found
-      by (At q) at = put-rows.files q ∙ sent.other q (folder-apart n h' entry q its apart at)
-      by Nothing at = refl
+      by : (found : Option ℕ) → find_name d directories n ≡ found → files_in behind.disk behind.session found ≡ files_in d s found
+      by (Some q) at = put-rows.files q ∙ sent.other q (folder-apart n h' entry q its apart at)
+      by None at = refl
 
   put-others : (n : List ℕ) (h' entry : ℕ) → Handled s n h' entry → h' ≢ h → (st : Store) → Seen d s n st → Seen behind.disk behind.session n st
   put-others n h' entry its apart =
@@ -182,9 +180,9 @@ module _ (d s : List ℕ) (o : Orderly d s) (k h : ℕ) (bs : List ℕ) (bytes :
 
   -- ---- its own tape
 
-  module _ (n : List ℕ) (at : place_of s n ≡ At p) (st : Store) (seen : Seen d s n st) where
-    own-folder : find_name d directories n ≡ At place
-    own-folder = subst (λ (m : List ℕ). find_name d directories m ≡ At place) (found_name s names_at n p at) g.on.there
+  module _ (n : List ℕ) (at : place_of s n ≡ Some p) (st : Store) (seen : Seen d s n st) where
+    own-folder : find_name d directories n ≡ Some place
+    own-folder = subst (λ (m : List ℕ). find_name d directories m ≡ Some place) (found_name s names_at n p at) g.on.there
 
     own-files : files_for behind.disk behind.session n ≡ (put_held (file_size_of s p) row.len (held_at before place p row.unwritten) bs).files
     own-files = ap (files_in behind.disk behind.session) (put-folder n ∙ own-folder) ∙ put-rows.files place ∙ sent.own
@@ -223,7 +221,7 @@ module _ (d s : List ℕ) (o : Orderly d s) (k h : ℕ) (bs : List ℕ) (bytes :
         = rw ((its-rows d s n o p at held st seen).size, same-held) in
         subst (λ (a : After). Leads e u n a (staged_len st.writer)) (sym goes)
         (record {
-          answer = sym (ap (λ (w : Writer). Done (staged_len w)) is-writer);
+          answer = sym (ap (λ (w : Writer). Ok (staged_len w)) is-writer);
           seen = subst (λ (w : Writer). Seen e u n (staged st w (put_held st.size row.len st.held bs))) is
               (subst (λ (x : Held). Seen e u n (staged st (writer_with s new) x)) holds
               (seen-touching d s e u n p new (put_held (file_size_of s p) row.len (held_at before place p row.unwritten) bs) touching st
@@ -249,7 +247,7 @@ module _ (d s : List ℕ) (o : Orderly d s) (k h : ℕ) (bs : List ℕ) (bytes :
   abbrev found : PutFinds d s k h bs
   found = put-found d s k h bs served
 
-  own : (place_of s n ≡ At found.tape) × (entry_size_of s found.tape ≡ entry)
+  own : (place_of s n ≡ Some found.tape) × (entry_size_of s found.tape ≡ entry)
   own = handle-own d s o n h found.tape entry its found.goes.found
 
   held-there : handle_number s found.tape ≢ 0

@@ -1,17 +1,13 @@
 -- Reads, from what is seen to the call: inside the page that a transaction was told of they are served, with that page's bytes; and the numbers that are
 -- answered are that page's, in entries. Assumes nothing.
-use Rattle.std.specs.Prelude.{◌≡◌, ◌≢◌, Bool, false, ◌&&◌, List, ℕ, ◌+◌, ◌*◌, ◌-◌, ◌/◌, ◌≤◌, ◌<◌, eqb, length, take, drop}
+use Rattle.octets.specs.Cases.{some-injective}
+use Rattle.std.specs.Prelude.{◌≡◌, ◌≢◌, Bool, false, ◌&&◌, List, ℕ, ◌+◌, ◌*◌, ◌-◌, ◌/◌, ◌≤◌, ◌<◌, eqb, length, take, drop, Option, Some, None, Ok}
 use Rattle.std.proofs.Math.Path.{refl, ap}
 use Rattle.std.proofs.Common.{sym, ◌∙◌, subst, true≢false, one-mul, add-mul, div-mul-le_self, arith, eq-eqb, eqb-true}
 use Rattle.std.proofs.Math.Bool.{true}
-use Rattle.std.proofs.Math.Option.{Option, some, some-injective}
 use Rattle.octets.specs.Cases.{picked, decide, and_l, and_r, and_both}
 use Rattle.octets.specs.Bytes.{put}
-use Rattle.octets.specs.declared.Found.{Found}
-use Rattle.octets.specs.declared.Found.TheVariants.{At, Nothing}
 use Rattle.answers.specs.Outcome.{Outcome, reading, entering, popping}
-use Rattle.answers.specs.declared.Answer.TheVariants.{Done}
-use Rattle.answers.specs.declared.OneEntry.TheVariants.{Entry}
 use Rattle.components.specs.BoundsLaws.{→in-bounds}
 use Rattle.layout.specs.Disk.{directories}
 use Rattle.layout.specs.Names.{find_name}
@@ -106,12 +102,12 @@ view_p q = record { listed = true; len = length q.content; start = q.start }
 -- transaction k is in a place and sees tape p so
 pub record Sight (s : List ℕ) (k p : ℕ) (v : View) : Type 0 where
   pub place : ℕ
-  pub found : find_transaction s k ≡ At place
+  pub found : find_transaction s k ≡ Some place
   pub view : seen_by s place p ≡ v
 
 -- the open truncate does
 record CutSight (s : List ℕ) (k p : ℕ) (v : View) : Type 0 where
-  found : find_transaction s k ≡ At 16
+  found : find_transaction s k ≡ Some 16
   writer : cuts s k ≡ true
   view : seen_by s 16 p ≡ v
 
@@ -130,14 +126,14 @@ is-page k q here w m own =
     let from = eq-eqb w.start q.start (ap (λ (x : Page). x.start) own) in
     rw (eq-eqb w.number k (sym (eqb-true k w.number m)), listed, long, from)
 
-module _ (d s n : List ℕ) (o : Orderly d s) (st : Store) (seen : Seen d s n st) (p : ℕ) (at : place_of s n ≡ At p) where
+module _ (d s n : List ℕ) (o : Orderly d s) (st : Store) (seen : Seen d s n st) (p : ℕ) (at : place_of s n ≡ Some p) where
   -- a reader's, by its number, bounds and length
   reader-sight : (k : ℕ) (q : Page) → 0 < count_in (is_page k q) st.readers → Sight s k p (view_p q)
   reader-sight k q there =
       let a = open-some (is_page k q) s (place_of s n) (omega (arith, seen.readers (is_page k q))) in
       let x = a.place in
       let v = shown (view_of s x p) in
-      let is : is_page k q (reader_in s (At p) x) ≡ true = subst (λ (f : Found). is_page k q (reader_in s f x) ≡ true) at a.holds in
+      let is : is_page k q (reader_in s (Some p) x) ≡ true = subst (λ (f : Option ℕ). is_page k q (reader_in s f x) ≡ true) at a.holds in
       let bounds = and_r (eqb (transaction_of s x).number k) _ is in
       let more = and_r v.listed _ bounds in
       let len : v.len ≡ length q.content = eqb-true v.len (length q.content) (and_l (eqb v.len (length q.content)) _ more) in
@@ -188,17 +184,17 @@ module _ (d s n : List ℕ) (o : Orderly d s) (st : Store) (seen : Seen d s n st
         }
 
 -- whatever the transaction is
-module _ (d s n : List ℕ) (o : Orderly d s) (starts : CutStarts s) (t : Told) (p : Phys) (seen : Seen d s n (build t p)) (a : ℕ) (at : place_of s n ≡ At a) where
-  pub sight : (k : ℕ) (q : Page) → page k t ≡ some q → q.here ≡ true → Sight s k a (view_p q)
+module _ (d s n : List ℕ) (o : Orderly d s) (starts : CutStarts s) (t : Told) (p : Phys) (seen : Seen d s n (build t p)) (a : ℕ) (at : place_of s n ≡ Some a) where
+  pub sight : (k : ℕ) (q : Page) → page k t ≡ Some q → q.here ≡ true → Sight s k a (view_p q)
   sight k q is here = by t.writer refl is
     where
-      window : page_in k t.windows ≡ some q → Sight s k a (view_p q)
+      window : page_in k t.windows ≡ Some q → Sight s k a (view_p q)
       window e = reader-sight d s n o (build t p) seen a at k q (page-counted (is_page k q) k q (is-page k q here) t.windows e)
 
-      by : (w : Staging) → t.writer ≡ w → page_of k t w ≡ some q → Sight s k a (view_p q)
+      by : (w : Staging) → t.writer ≡ w → page_of k t w ≡ Some q → Sight s k a (view_p q)
       by idle e = window
       by (appending m h c b) e =
-          picked (λ (x : Option Page). x ≡ some q → Sight s k a (view_p q)) (eqb k m) (some (record { here = h; start = b; content = c })) (page_in k t.windows)
+          picked (λ (x : Option Page). x ≡ Some q → Sight s k a (view_p q)) (eqb k m) (Some (record { here = h; start = b; content = c })) (page_in k t.windows)
           (λ r f.
           let same : record { here = h; start = b; content = c } ≡ q = some-injective _ _ f in
           let listed : h ≡ true = ap (λ (x : Page). x.here) same ∙ here in
@@ -206,7 +202,7 @@ module _ (d s n : List ℕ) (o : Orderly d s) (starts : CutStarts s) (t : Told) 
           subst (λ (x : Page). Sight s k a (view_p x)) same (append-sight d s n o (build t p) seen a at k t.epoch (length c) b writer))
           (λ r f. window f)
       by (cutting m c) e =
-          picked (λ (x : Option Page). x ≡ some q → Sight s k a (view_p q)) (eqb k m) (some (record { here = t.listed; start = t.start; content = c })) (page_in k t.windows)
+          picked (λ (x : Option Page). x ≡ Some q → Sight s k a (view_p q)) (eqb k m) (Some (record { here = t.listed; start = t.start; content = c })) (page_in k t.windows)
           (λ r f.
           let same : record { here = t.listed; start = t.start; content = c } ≡ q = some-injective _ _ f in
           let listed : t.listed ≡ true = ap (λ (x : Page). x.here) same ∙ here in
@@ -217,12 +213,12 @@ module _ (d s n : List ℕ) (o : Orderly d s) (starts : CutStarts s) (t : Told) 
 
 -- ---- what is held is served
 
-found-there : (f : Found) → is_found f ≡ true → (i : ℕ) × (f ≡ At i)
-found-there (At i) e = (i, refl)
-found-there Nothing e = absurd (true≢false (sym e))
+found-there : (f : Option ℕ) → is_found f ≡ true → (i : ℕ) × (f ≡ Some i)
+found-there (Some i) e = (i, refl)
+found-there None e = absurd (true≢false (sym e))
 
 -- what is found, is found in one place
-pub one_place : (f : Found) (i j : ℕ) → f ≡ At i → f ≡ At j → i ≡ j
+pub one_place : (f : Option ℕ) (i j : ℕ) → f ≡ Some i → f ≡ Some j → i ≡ j
 one_place f i j e g = cc
 
 module _ (d s n : List ℕ) (letters : 0 < length n) (o : Orderly d s) (t : Told) (p : Phys) (good : Good t p)
@@ -240,15 +236,15 @@ module _ (d s n : List ℕ) (letters : 0 < length n) (o : Orderly d s) (t : Told
   live = sym seen.live ∙ live_at s n tape.place tape.at given_at
 
   -- the areas hold what the store holds
-  held-at : (place : ℕ) → directory_of d s tape.place ≡ At place → held_at (areas d s) place tape.place p.held.unwritten ≡ p.held
+  held-at : (place : ℕ) → directory_of d s tape.place ≡ Some place → held_at (areas d s) place tape.place p.held.unwritten ≡ p.held
   held-at place named =
       let opened = seen.opened tape.place tape.at live in
-      let in-it : find_name d directories n ≡ At place = ap (find_name d directories) (sym tape.named) ∙ named in
+      let in-it : find_name d directories n ≡ Some place = ap (find_name d directories) (sym tape.named) ∙ named in
       let files : files_at (areas d s) place ≡ p.held.files = ap (files_in d s) (sym in-it) ∙ seen.files in
       λ i. record { ring = opened.ring i; cache = opened.cache i; files = files i; unwritten = p.held.unwritten }
 
   -- what a page has is served
-  page-served : (k from count : ℕ) (q : Page) → page k t ≡ some q → q.start ≤ from → from + count ≤ length q.content
+  page-served : (k from count : ℕ) (q : Page) → page k t ≡ Some q → q.start ≤ from → from + count ≤ length q.content
       → (can_serve d s tape.place from count ≡ true) × (served d s tape.place from count ≡ take count (drop from q.content))
   page-served k from count q is low high =
       let a = tape.place in
@@ -259,7 +255,7 @@ module _ (d s n : List ℕ) (letters : 0 < length n) (o : Orderly d s) (t : Told
       ∙ ap (λ (x : Held). fetch t.size x from count) (held-at place named)
       ∙ reads_held t p good live k from count q is low high)
 
-  inside : (k x i count : ℕ) (q : Page) → seen_by s x tape.place ≡ view_p q → page k t ≡ some q → q.start ≤ i * entry → i * entry + count * entry ≤ length q.content
+  inside : (k x i count : ℕ) (q : Page) → seen_by s x tape.place ≡ view_p q → page k t ≡ Some q → q.start ≤ i * entry → i * entry + count * entry ≤ length q.content
       → (out : List ℕ) → count * entry ≤ length out → Inside d s x tape.place i count out
   inside k x i count q view is low high out room =
       let e = tape.entry-size in
@@ -270,7 +266,7 @@ module _ (d s n : List ℕ) (letters : 0 < length n) (o : Orderly d s) (t : Told
         there = rw e (page-served k (i * entry) (count * entry) q is low high).0;
       }
 
-  filled-with : (k i count : ℕ) (q : Page) → page k t ≡ some q → q.start ≤ i * entry → i * entry + count * entry ≤ length q.content
+  filled-with : (k i count : ℕ) (q : Page) → page k t ≡ Some q → q.start ≤ i * entry → i * entry + count * entry ≤ length q.content
       → (out : List ℕ) → filled d s tape.place i count out ≡ put out 0 (take (count * entry) (drop (i * entry) q.content))
   filled-with k i count q is low high out = rw tape.entry-size (ap (put out 0) (page-served k (i * entry) (count * entry) q is low high).1)
 
@@ -278,12 +274,12 @@ module _ (d s n : List ℕ) (letters : 0 < length n) (o : Orderly d s) (t : Told
   entry_at_lem = handle-entry s tape.place (handle_of s tape.place) refl ∙ tape.entry-size
 
   -- an append is told where it begins
-  pub put-answer : (k : ℕ) (here : Bool) (c : List ℕ) (start : ℕ) → t.writer ≡ appending k here c start → (bs : List ℕ) (v : ℕ) → (put_call d s k h bs).answer ≡ Done v
+  pub put-answer : (k : ℕ) (here : Bool) (c : List ℕ) (start : ℕ) → t.writer ≡ appending k here c start → (bs : List ℕ) (v : ℕ) → (put_call d s k h bs).answer ≡ Ok v
       → v ≡ length c / entry
   put-answer k here c start writer bs v =
       let w = tape.place in
       let row = append-row d s n o (build t p) seen w tape.at k t.epoch here (length c) start (ap (erase_w t.epoch) writer) in
-      put-cases (λ (x : Outcome). x.answer ≡ Done v → v ≡ length c / entry) d s bs
+      put-cases (λ (x : Outcome). x.answer ≡ Ok v → v ≡ length c / entry) d s bs
       (λ why e. let z : ◌≡◌ {A = ℕ} 0 1 = cc in absurd (omega arith))
       k h
       (λ a place g e.
@@ -294,40 +290,40 @@ module _ (d s n : List ℕ) (letters : 0 < length n) (o : Orderly d s) (t : Told
       (cc) ∙ ap (λ (x : ℕ). (touched_as s x).len / entry_size_of s x) same ∙ rw (len, tape.entry-size))
 
   module _ (starts : CutStarts s) where
-    sees : (k : ℕ) (q : Page) → page k t ≡ some q → q.here ≡ true → Sight s k tape.place (view_p q)
+    sees : (k : ℕ) (q : Page) → page k t ≡ Some q → q.here ≡ true → Sight s k tape.place (view_p q)
     sees = sight d s n o starts t p seen tape.place tape.at
 
-    pub read-served : (k i count : ℕ) (q : Page) → page k t ≡ some q → q.here ≡ true → q.start ≤ i * entry → i * entry + count * entry ≤ length q.content
+    pub read-served : (k i count : ℕ) (q : Page) → page k t ≡ Some q → q.here ≡ true → q.start ≤ i * entry → i * entry + count * entry ≤ length q.content
         → (out : List ℕ) → count * entry ≤ length out
-        → read_call d s k h i count out ≡ reading (Done count) (put out 0 (take (count * entry) (drop (i * entry) q.content)))
+        → read_call d s k h i count out ≡ reading (Ok count) (put out 0 (take (count * entry) (drop (i * entry) q.content)))
     read-served k i count q is here low high out room =
         let x = sees k q is here in
         read_done d s k h i count out x.place tape.place
         (record { sound = ok; transaction = x.found; found = tape.found; inside = inside k x.place i count q x.view is low high out room })
-        ∙ ap (reading (Done count)) (filled-with k i count q is low high out)
+        ∙ ap (reading (Ok count)) (filled-with k i count q is low high out)
 
-    pub entry-served : (k i : ℕ) (q : Page) → page k t ≡ some q → q.here ≡ true → q.start ≤ i * entry → i * entry + entry ≤ length q.content
+    pub entry-served : (k i : ℕ) (q : Page) → page k t ≡ Some q → q.here ≡ true → q.start ≤ i * entry → i * entry + entry ≤ length q.content
         → (out : List ℕ) → entry ≤ length out
-        → entry_call d s k h i out ≡ entering (Entry i) (put out 0 (take entry (drop (i * entry) q.content)))
+        → entry_call d s k h i out ≡ entering (Ok (Some i)) (put out 0 (take entry (drop (i * entry) q.content)))
     entry-served k i q is here low high out room =
         let one : 1 * entry ≡ entry = one-mul entry in
-        entry_read d s k h i out (Done 1) (put out 0 (take entry (drop (i * entry) q.content))) (Entry i)
-        (read-served k i 1 q is here low (rw one high) out (rw one room) ∙ ap (λ (m : ℕ). reading (Done 1) (put out 0 (take m (drop (i * entry) q.content)))) one)
+        entry_read d s k h i out (Ok 1) (put out 0 (take entry (drop (i * entry) q.content))) (Ok (Some i))
+        (read-served k i 1 q is here low (rw one high) out (rw one room) ∙ ap (λ (m : ℕ). reading (Ok 1) (put out 0 (take m (drop (i * entry) q.content)))) one)
         refl
 
-    pub len-served : (k : ℕ) (q : Page) → page k t ≡ some q → q.here ≡ true → len_call d s k h ≡ Done (length q.content / entry)
+    pub len-served : (k : ℕ) (q : Page) → page k t ≡ Some q → q.here ≡ true → len_call d s k h ≡ Ok (length q.content / entry)
     len-served k q is here =
         let x = sees k q is here in
         len-goes d s k h ok x.place x.found tape.place tape.found
         ∙ len-listed s x.place tape.place (view_p q) (sym x.view) refl
-        ∙ ap (λ (m : ℕ). Done (length q.content / m)) entry_at_lem
+        ∙ ap (λ (m : ℕ). Ok (length q.content / m)) entry_at_lem
 
-    pub start-served : (k : ℕ) (q : Page) → page k t ≡ some q → q.here ≡ true → start_call d s k h ≡ Done (q.start / entry)
+    pub start-served : (k : ℕ) (q : Page) → page k t ≡ Some q → q.here ≡ true → start_call d s k h ≡ Ok (q.start / entry)
     start-served k q is here =
         let x = sees k q is here in
         start-goes d s k h ok x.place x.found tape.place tape.found
         ∙ start-listed s x.place tape.place (view_p q) (sym x.view) refl
-        ∙ ap (λ (m : ℕ). Done (q.start / m)) entry_at_lem
+        ∙ ap (λ (m : ℕ). Ok (q.start / m)) entry_at_lem
 
     -- the last entry, and the rest staged
     module _ (k : ℕ) (c : List ℕ) (writer : t.writer ≡ cutting k c) where
@@ -343,11 +339,11 @@ module _ (d s n : List ℕ) (letters : 0 < length n) (o : Orderly d s) (t : Told
       cut-sees : CutSight s k tape.place (view_p cut_page)
       cut-sees = cut-sight d s n o (build t p) seen tape.place tape.at starts k (length c) listed (ap (erase_w t.epoch) writer)
 
-      pub pop-served : 0 < length c / entry → t.start ≤ last * entry → (out : List ℕ) → entry ≤ length out → (a : ℕ) → place_of s n ≡ At a
-          → pop_call d s k h out ≡ popping (Entry last) (cut_to s a (last * entry)) (put out 0 (take entry (drop (last * entry) c)))
+      pub pop-served : 0 < length c / entry → t.start ≤ last * entry → (out : List ℕ) → entry ≤ length out → (a : ℕ) → place_of s n ≡ Some a
+          → pop_call d s k h out ≡ popping (Ok (Some last)) (cut_to s a (last * entry)) (put out 0 (take entry (drop (last * entry) c)))
       pop-served there low out room a at =
           let w = tape.place in
-          let is : page k t ≡ some cut_page = rw (writer, eq-eqb k k refl, listed) in
+          let is : page k t ≡ Some cut_page = rw (writer, eq-eqb k k refl, listed) in
           let one : 1 * entry ≡ entry = one-mul entry in
           let same : (seen_by s 16 w).len / entry_size_of s w ≡ length c / entry = rw (cut-sees.view, tape.entry-size) in
           let up : (last + 1) * entry ≡ length c / entry * entry = ap (λ (m : ℕ). m * entry) (omega arith) in
@@ -360,9 +356,9 @@ module _ (d s n : List ℕ) (letters : 0 < length n) (o : Orderly d s) (t : Told
             sound = ok;
             writer = cut-sees.writer;
             found = tape.found;
-            some = λ z. omega arith;
+            Some = λ z. omega arith;
             inside = subst (λ (m : ℕ). Inside d s 16 w m 1 out) (sym its-last) on;
           })
-          ∙ ap (λ (m : ℕ). popping (Entry m) (cut_to s w (m * entry_size_of s w)) (filled d s w m 1 out)) its-last
-          ∙ ap (λ (b : List ℕ). popping (Entry last) (cut_to s w (last * entry_size_of s w)) b) bytes-are
+          ∙ ap (λ (m : ℕ). popping (Ok (Some m)) (cut_to s w (m * entry_size_of s w)) (filled d s w m 1 out)) its-last
+          ∙ ap (λ (b : List ℕ). popping (Ok (Some last)) (cut_to s w (last * entry_size_of s w)) b) bytes-are
           ∙ rw (tape.entry-size, one_place (place_of s n) w a tape.at at)

@@ -1,18 +1,13 @@
 -- A `store` that is served: the areas are orderly again, and of every tape is seen what the step `restart` of `lives` leaves. Assumes nothing.
-use Rattle.std.specs.Prelude.{◌≡◌, ◌≢◌, Bool, true, false, ◌&&◌, List, [], ◌∷◌, length}
+use Rattle.std.specs.Prelude.{◌≡◌, ◌≢◌, Bool, true, false, ◌&&◌, List, [], ◌∷◌, length, Option, Some, None, Ok, slice_get}
 use Rattle.std.proofs.Math.Path.{refl, sym, ap, fun_ext}
 use Rattle.std.proofs.Common.{◌∙◌, true≢false, zero-add, arith}
 use Rattle.std.proofs.lemmas.Bool.{false≢true}
-use Rattle.std.proofs.Math.Option.{Option, none, some}
 use Prim.Native.Nat.{ℕ, zero, suc, ◌+◌, ◌≤◌, ◌<◌}
-use Rattle.std.proofs.Math.ListN.{get_elem?}
 use Rattle.octets.specs.Compare.{comes_before, before-irrefl, before-trans}
 use Rattle.octets.specs.First.{count}
 use Rattle.octets.specs.Number.{Bytes}
-use Rattle.octets.specs.declared.Found.{Found}
-use Rattle.octets.specs.declared.Found.TheVariants.{At, Nothing}
 use Rattle.answers.specs.Answers.{code_of}
-use Rattle.answers.specs.declared.Answer.TheVariants.{Done}
 use Rattle.components.specs.Files.{untracked}
 use Rattle.metadata.specs.Choice.{next_side, chosen_epoch, chosen_list}
 use Rattle.metadata.specs.Decoding.{Listing, tapes}
@@ -65,7 +60,7 @@ not_behind : (a b : List ℕ) → comes_before a b ≡ true → a ≡ b → ⊥
 not_behind a b e same = true≢false (sym e ∙ ap (comes_before a) (sym same) ∙ before-irrefl a)
 
 -- every tape of it comes behind the name before it
-all-behind : (before : List ℕ) (ts : List Tape) → good_after before ts ≡ true → (i : ℕ) (t : Tape) → get_elem? ts i ≡ some t → comes_before before t.name ≡ true
+all-behind : (before : List ℕ) (ts : List Tape) → good_after before ts ≡ true → (i : ℕ) (t : Tape) → slice_get ts i ≡ Some t → comes_before before t.name ≡ true
 all-behind before [] good i t e = let z : ◌≡◌ {A = ℕ} 0 1 = cc in absurd (omega arith)
 all-behind before (u ∷ us) good zero t e =
     let same : u ≡ t = cc in
@@ -74,7 +69,7 @@ all-behind before (u ∷ us) good (suc i) t e =
     before-trans before u.name t.name (fits-true before u (good-first before u us good)).order
     (all-behind u.name us (good_others before u us good) i t e)
 
-tapes-apart : (before : List ℕ) (ts : List Tape) → good_after before ts ≡ true → (i j : ℕ) (t u : Tape) → get_elem? ts i ≡ some t → get_elem? ts j ≡ some u
+tapes-apart : (before : List ℕ) (ts : List Tape) → good_after before ts ≡ true → (i j : ℕ) (t u : Tape) → slice_get ts i ≡ Some t → slice_get ts j ≡ Some u
     → t.name ≡ u.name → i ≡ j
 tapes-apart before [] good i j t u e f same = let z : ◌≡◌ {A = ℕ} 0 1 = cc in absurd (omega arith)
 tapes-apart before (x ∷ xs) good zero zero t u e f same = refl
@@ -87,7 +82,7 @@ tapes-apart before (x ∷ xs) good (suc i) zero t u e f same =
 tapes-apart before (x ∷ xs) good (suc i) (suc j) t u e f same = ap suc (tapes-apart x.name xs (good_others before x xs good) i j t u e f same)
 
 -- the list's word on the name of one of its tapes
-listed_at_lem : (n before : List ℕ) (ts : List Tape) → good_after before ts ≡ true → (i : ℕ) (t : Tape) → get_elem? ts i ≡ some t → t.name ≡ n → listed_as n ts ≡ word_of t
+listed_at_lem : (n before : List ℕ) (ts : List Tape) → good_after before ts ≡ true → (i : ℕ) (t : Tape) → slice_get ts i ≡ Some t → t.name ≡ n → listed_as n ts ≡ word_of t
 listed_at_lem n before [] good i t e has = let z : ◌≡◌ {A = ℕ} 0 1 = cc in absurd (omega arith)
 listed_at_lem n before (u ∷ us) good zero t e has =
     let same : u ≡ t = cc in
@@ -98,7 +93,7 @@ listed_at_lem n before (u ∷ us) good (suc i) t e has =
     ∙ listed_at_lem n u.name us rest i t e has
 
 -- and on any other
-listed-out : (n : List ℕ) (ts : List Tape) → ((i : ℕ) (t : Tape) → i < length ts → get_elem? ts i ≡ some t → t.name ≡ n → ⊥) → listed_as n ts ≡ no_view
+listed-out : (n : List ℕ) (ts : List Tape) → ((i : ℕ) (t : Tape) → i < length ts → slice_get ts i ≡ Some t → t.name ≡ n → ⊥) → listed_as n ts ≡ no_view
 unfolding listed_as
 listed-out n [] h = refl
 listed-out n (u ∷ us) h = listed-miss n u us (h 0 u (omega arith) refl) ∙ listed-out n us (λ i t l e. h (suc i) t (omega arith) e)
@@ -132,11 +127,11 @@ module _ (d s : List ℕ) (bytes : Bytes d) (served : code_of (store_call d s).a
   few = good-few ts (list-good (the_record d) ts (store-reads d s served).is)
 
   -- its rows
-  pub name-stored : (p : ℕ) → p < 8 → name u names_at p ≡ name_of (get_elem? ts p)
+  pub name-stored : (p : ℕ) → p < 8 → name u names_at p ≡ name_of (slice_get ts p)
   unfolding started
   name-stored p low = sym (name-at u p low) ∙ ap (λ (m : Session). m.name p) means
 
-  pub list-stored : (p : ℕ) → p < 8 → view_of u 17 p ≡ view_for (get_elem? ts p)
+  pub list-stored : (p : ℕ) → p < 8 → view_of u 17 p ≡ view_for (slice_get ts p)
   unfolding started
   list-stored p low = sym (view-at u 17 p (omega arith) low) ∙ ap (λ (m : Session). m.view 17 p) means
 
@@ -168,15 +163,15 @@ module _ (d s : List ℕ) (bytes : Bytes d) (served : code_of (store_call d s).a
   -- the tape in a place that has a name
   pub record NamedTape (p : ℕ) : Type 0 where
     pub tape : Tape
-    pub at : get_elem? ts p ≡ some tape
+    pub at : slice_get ts p ≡ Some tape
     pub has : name u names_at p ≡ tape.name
 
   pub named-tape : (p : ℕ) → p < 8 → 0 < length (name u names_at p) → NamedTape p
-  named-tape p low long = by (get_elem? ts p) refl
+  named-tape p low long = by (slice_get ts p) refl
     where
-      by : (o : Option Tape) → get_elem? ts p ≡ o → NamedTape p
-      by none e = let same : name u names_at p ≡ [] = name-stored p low ∙ ap name_of e in absurd (omega (arith, ap length same))
-      by (some t) e = record { tape = t; at = e; has = name-stored p low ∙ ap name_of e }
+      by : (o : Option Tape) → slice_get ts p ≡ o → NamedTape p
+      by None e = let same : name u names_at p ≡ [] = name-stored p low ∙ ap name_of e in absurd (omega (arith, ap length same))
+      by (Some t) e = record { tape = t; at = e; has = name-stored p low ∙ ap name_of e }
 
   names-stored : (p q : ℕ) → p < 8 → q < 8 → 0 < length (name u names_at p) → name u names_at p ≡ name u names_at q → p ≡ q
   names-stored p q low high long same =
@@ -185,11 +180,11 @@ module _ (d s : List ℕ) (bytes : Bytes d) (served : code_of (store_call d s).a
       tapes-apart [] ts good p q one.tape other.tape one.at other.at (sym one.has ∙ same ∙ other.has)
 
   free-stored : (p : ℕ) → p < 8 → length (name u names_at p) ≡ 0 → (view_of u 17 p).listed ≡ false
-  free-stored p low free = by (get_elem? ts p) refl
+  free-stored p low free = by (slice_get ts p) refl
     where
-      by : (o : Option Tape) → get_elem? ts p ≡ o → (view_of u 17 p).listed ≡ false
-      by none e = ap (λ (v : View). v.listed) (list-stored p low ∙ ap view_for e)
-      by (some t) e =
+      by : (o : Option Tape) → slice_get ts p ≡ o → (view_of u 17 p).listed ≡ false
+      by None e = ap (λ (v : View). v.listed) (list-stored p low ∙ ap view_for e)
+      by (Some t) e =
           let same : name u names_at p ≡ t.name = name-stored p low ∙ ap name_of e in
           let long = some-behind [] t.name (all-behind [] ts good p t e) in
           absurd (omega (arith, ap length same))
@@ -198,14 +193,14 @@ module _ (d s : List ℕ) (bytes : Bytes d) (served : code_of (store_call d s).a
   pub list-says : (n : List ℕ) → 0 < length n → listed_as n ts ≡ view_in u 17 (place_of u n)
   list-says n long = by (place_of u n) refl
     where
-      by : (found : Found) → place_of u n ≡ found → listed_as n ts ≡ view_in u 17 found
-      by (At p) e =
+      by : (found : Option ℕ) → place_of u n ≡ found → listed_as n ts ≡ view_in u 17 found
+      by (Some p) e =
           let low = name-low u names_at n p e in
           let has = found_name u names_at n p e in
           let one = named-tape p low (rw has long) in
           listed_at_lem n [] ts good p one.tape one.at (sym one.has ∙ has)
           ∙ sym (ap shown (list-stored p low ∙ ap view_for one.at))
-      by Nothing e =
+      by None e =
           listed-out n ts
           (λ i t l at same.
           let low : i < 8 = omega (arith, few) in
@@ -274,38 +269,38 @@ forgotten : (m : Disk) (t : ℕ → Tracking) (place : ℕ) → files_of m (λ (
 unfolding files_of forget
 forgotten m t place = fun_ext (λ (k : ℕ). by (slot_with m place k))
   where
-    by : (found : Found) → file_at m (λ (i : ℕ). Untracked) found ≡ untracked (file_at m t found)
-    by (At i) = refl
-    by Nothing = refl
+    by : (found : Option ℕ) → file_at m (λ (i : ℕ). Untracked) found ≡ untracked (file_at m t found)
+    by (Some i) = refl
+    by None = refl
 
 module _ (d s : List ℕ) (bytes : Bytes d) (served : code_of (store_call d s).answer ≡ 0) (n : List ℕ) where
   abbrev w : List ℕ
   w = (store_call d s).session
 
-  abbrev place : Found
+  abbrev place : Option ℕ
   place = place_of w n
 
   -- a tape is not open and nothing of it is staged
   pub touched-after : touched_in w place ≡ false
   touched-after = by place refl
     where
-      by : (found : Found) → place ≡ found → touched_in w found ≡ false
-      by (At p) e = untouched-stored d s bytes served p (name-low w names_at n p e)
-      by Nothing e = refl
+      by : (found : Option ℕ) → place ≡ found → touched_in w found ≡ false
+      by (Some p) e = untouched-stored d s bytes served p (name-low w names_at n p e)
+      by None e = refl
 
   pub handle-after : handle_in w place ≡ 0
   handle-after = by place refl
     where
-      by : (found : Found) → place ≡ found → handle_in w found ≡ 0
-      by (At p) e = number-stored d s bytes served p (name-low w names_at n p e)
-      by Nothing e = refl
+      by : (found : Option ℕ) → place ≡ found → handle_in w found ≡ 0
+      by (Some p) e = number-stored d s bytes served p (name-low w names_at n p e)
+      by None e = refl
 
   pub live-after : is_open_tape w place ≡ false
   live-after = by place refl
     where
-      by : (found : Found) → place ≡ found → is_open_tape w found ≡ false
-      by (At p) e = rw (number-stored d s bytes served p (name-low w names_at n p e))
-      by Nothing e = refl
+      by : (found : Option ℕ) → place ≡ found → is_open_tape w found ≡ false
+      by (Some p) e = rw (number-stored d s bytes served p (name-low w names_at n p e))
+      by None e = refl
 
   pub readers-after : (has : Reader → Bool) → count_open has w place ≡ 0
   unfolding count_open
@@ -320,19 +315,19 @@ module _ (d s : List ℕ) (bytes : Bytes d) (served : code_of (store_call d s).a
   unfolding forget
   files-after before = by (find_name d directories n)
     where
-      by : (found : Found) → files_in d w found ≡ forget (files_in d before found)
-      by (At i) =
+      by : (found : Option ℕ) → files_in d w found ≡ forget (files_in d before found)
+      by (Some i) =
           ap (λ (t : ℕ → Tracking). files_of (disk_of d) t i) (tracking-stored d s bytes served)
           ∙ forgotten (disk_of d) (session_of before).tracking i
-      by Nothing = refl
+      by None = refl
 
   pub store-handled : (entry : ℕ) → Handled w n 0 entry
-  store-handled entry = record { number = handle-after; size = λ some. absurd (some refl) }
+  store-handled entry = record { number = handle-after; size = λ Some. absurd (Some refl) }
 
 -- the real answer is the epoch that the disk has
-pub store-answer : (d s : List ℕ) → code_of (store_call d s).answer ≡ 0 → (store_call d s).answer ≡ Done (chosen_epoch (the_record d))
+pub store-answer : (d s : List ℕ) → code_of (store_call d s).answer ≡ 0 → (store_call d s).answer ≡ Ok (chosen_epoch (the_record d))
 store-answer d s =
-    store-cases (λ o. code_of o.answer ≡ 0 → o.answer ≡ Done (chosen_epoch (the_record d))) d s (λ why e. absurd (refusal-some why e)) (λ ts ok read e. refl)
+    store-cases (λ o. code_of o.answer ≡ 0 → o.answer ≡ Ok (chosen_epoch (the_record d))) d s (λ why e. absurd (refusal-some why e)) (λ ts ok read e. refl)
 
 -- two lists that were read of one record are the same
 pub same-list : (l : Listing) (a b : List Tape) → l ≡ tapes a → l ≡ tapes b → a ≡ b
@@ -368,13 +363,13 @@ module _ (d s : List ℕ) (o : Orderly d s) (n : List ℕ) (long : 0 < length n)
         }
 
     -- both answer the epoch
-    pub restart-answers : ((store_call d area).answer ≡ Done st.epoch) × ((step restart st).answer ≡ Life.Done st.epoch)
+    pub restart-answers : ((store_call d area).answer ≡ Ok st.epoch) × ((step restart st).answer ≡ Life.Done st.epoch)
     unfolding step
-    restart-answers = (store-answer d area served ∙ ap Done epoch-seen, refl)
+    restart-answers = (store-answer d area served ∙ ap Ok epoch-seen, refl)
 
   -- the session's own area
   pub store-seen : code_of (store_call d s).answer ≡ 0 → Seen d (store_call d s).session n (step restart st).store
   store-seen = restart-seen s
 
-  pub store-answers : code_of (store_call d s).answer ≡ 0 → ((store_call d s).answer ≡ Done st.epoch) × ((step restart st).answer ≡ Life.Done st.epoch)
+  pub store-answers : code_of (store_call d s).answer ≡ 0 → ((store_call d s).answer ≡ Ok st.epoch) × ((step restart st).answer ≡ Life.Done st.epoch)
   store-answers = restart-answers s

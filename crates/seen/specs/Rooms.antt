@@ -1,15 +1,13 @@
 -- Room for the files of an open append (rule of 15): there is, when it begins; readers and shifts leave it, and a put keeps it (`PutRooms.antt`); and so its
 -- commit is never refused for want of a slot, nor for want of a directory. Assumes nothing.
-use Rattle.std.specs.Prelude.{◌≡◌, refl, ◌≢◌, Bool, not, ◌&&◌, List, [], ◌∷◌, ℕ, ◌+◌, ◌*◌, ◌≤◌, ◌<◌, eqb, length}
+use Rattle.std.specs.Prelude.{◌≡◌, refl, ◌≢◌, Bool, not, ◌&&◌, List, [], ◌∷◌, ℕ, ◌+◌, ◌*◌, ◌≤◌, ◌<◌, eqb, length, Some, Ok, Err}
 use Rattle.std.proofs.Common.{sym, ap, ◌∙◌, true≢false, arith, eq-eqb, le-ltb}
 use Rattle.std.proofs.Math.Bool.{true, false, or-true}
 use Rattle.octets.specs.Cases.{picked, equal}
 use Rattle.octets.specs.First.{all_true}
-use Rattle.octets.specs.declared.Found.TheVariants.{At}
 use Rattle.answers.specs.Answers.{code_of}
 use Rattle.answers.specs.Outcome.{Outcome}
-use Rattle.answers.specs.declared.Answer.{Answer}
-use Rattle.answers.specs.declared.Answer.TheVariants.{Done, Refused}
+use Rattle.answers.specs.Answers.{Answer}
 use Rattle.layout.specs.Names.{name}
 use Rattle.layout.specs.Disk.{slots}
 use Rattle.layout.specs.Session.{names_at, handle_number, entry_size_of}
@@ -121,7 +119,7 @@ module _ (d s : List ℕ) (o : Orderly d s) (u : List ℕ) (long : length u ≡ 
         named = name-stays 48 304 s u names-stay long names_at q (o.session.names.short q low) (omega arith) (omega arith);
       })
 
-pub reader-roomy : (d s : List ℕ) → Orderly d s → (t : ℕ) → free_reader s ≡ At t → Roomy d s → Roomy d (reader_call d s).session
+pub reader-roomy : (d s : List ℕ) → Orderly d s → (t : ℕ) → free_reader s ≡ Some t → Roomy d s → Roomy d (reader_call d s).session
 reader-roomy d s o t free =
     let a = reader-leaves d s t free in
     let low = free-low s t free in
@@ -129,7 +127,7 @@ reader-roomy d s o t free =
     stays-roomy d s o (reader_call d s).session (reader-touches d s).long a.names-stay (a.views-stay 16 (omega arith) apart) (a.transactions-stay 16 (omega arith) apart)
     a.tapes-stay
 
-pub drop-reader-roomy : (d s : List ℕ) → Orderly d s → (k t : ℕ) → find_transaction s k ≡ At t → t < 16 → Roomy d s → Roomy d (drop_transaction_call d s k).session
+pub drop-reader-roomy : (d s : List ℕ) → Orderly d s → (k t : ℕ) → find_transaction s k ≡ Some t → t < 16 → Roomy d s → Roomy d (drop_transaction_call d s k).session
 drop-reader-roomy d s o k t found low =
     let u = (drop_transaction_call d s k).session in
     let apart : t ≢ 16 = λ z. omega arith in
@@ -206,16 +204,16 @@ module _ (d s : List ℕ) (o : Orderly d s) where
   append-fine room = by (may_commit d s false (list_of (next_list s false))) (may-fine false (list_of (next_list s false)))
     where
       by : (a : Answer) → Fine a → Fine (appended_if d s (list_of (next_list s false)) a).answer
-      by (Done v) fine = rw room ((λ e. omega arith), (λ e. omega arith))
-      by (Refused why) fine = fine
+      by (Ok v) fine = rw room ((λ e. omega arith), (λ e. omega arith))
+      by (Err why) fine = fine
 
   truncate-fine : Fine (commit_truncate d s).answer
   unfolding commit_truncate truncated_by
   truncate-fine = by (may_commit d s true (list_of (next_list s true))) (may-fine true (list_of (next_list s true)))
     where
       by : (a : Answer) → Fine a → Fine (truncated_if d s (list_of (next_list s true)) a).answer
-      by (Done v) fine = ((λ e. omega arith), (λ e. omega arith))
-      by (Refused why) fine = fine
+      by (Ok v) fine = ((λ e. omega arith), (λ e. omega arith))
+      by (Err why) fine = fine
 
   pub commit-fine : Roomy d s → (k : ℕ) → Fine (commit_call d s k).answer
   unfolding commit_call no_room

@@ -1,11 +1,9 @@
 -- What is read of a row is as before where the row is: a handle's numbers, whether a transaction is open, and what is seen of a tape in its place. Assumes
 -- nothing.
-use Rattle.std.specs.Prelude.{◌≡◌, refl, ◌≢◌, Bool, true, false, ◌&&◌, List, ℕ, ◌≤◌, ◌<◌, length}
+use Rattle.std.specs.Prelude.{◌≡◌, refl, ◌≢◌, Bool, true, false, ◌&&◌, List, ℕ, ◌≤◌, ◌<◌, length, Option, Some, None}
 use Rattle.std.proofs.Common.{sym, ap, ◌∙◌, true≢false, arith, eq-eqb, ne_eqb}
 use Rattle.octets.specs.Cases.{order, equal}
 use Rattle.octets.specs.First.{count_same}
-use Rattle.octets.specs.declared.Found.{Found}
-use Rattle.octets.specs.declared.Found.TheVariants.{At, Nothing}
 use Rattle.layout.specs.Names.{name}
 use Rattle.layout.specs.NamesLaws.{name-low}
 use Rattle.layout.specs.Session.{names_at, handle_number, entry_size_of, file_size_of}
@@ -67,7 +65,7 @@ module _ (d s u : List ℕ) (o : Orderly d s) (shut : is_open_at u 16 ≡ false)
       rw (readers t a, last) (o.number-given t l (was-open t a open-t))
 
 -- the open readers, where each sees of the tape what it saw
-pub count-rows : (s u : List ℕ) (was now : Found) → ((t : ℕ) → t < 16 → transaction_of u t ≡ transaction_of s t) → ((t : ℕ) → t < 16 → view_in u t now ≡ view_in s t was)
+pub count-rows : (s u : List ℕ) (was now : Option ℕ) → ((t : ℕ) → t < 16 → transaction_of u t ≡ transaction_of s t) → ((t : ℕ) → t < 16 → view_in u t now ≡ view_in s t was)
     → (has : Reader → Bool) → count_open has u now ≡ count_open has s was
 unfolding count_open
 count-rows s u was now rows views has =
@@ -91,40 +89,40 @@ module _ (s u : List ℕ) (p : ℕ) (staged : staged_of u p ≡ staged_of s p) (
 
 -- ---- the tape of a name, in its place
 
-pub untouched-rows : (u : List ℕ) (tape : Found) → ((p : ℕ) → tape ≡ At p → (staged_of u p).touched ≡ false) → touched_in u tape ≡ false
-untouched-rows u (At p) rows = rows p refl
-untouched-rows u Nothing rows = refl
+pub untouched-rows : (u : List ℕ) (tape : Option ℕ) → ((p : ℕ) → tape ≡ Some p → (staged_of u p).touched ≡ false) → touched_in u tape ≡ false
+untouched-rows u (Some p) rows = rows p refl
+untouched-rows u None rows = refl
 
-pub view_in_lem : (s u : List ℕ) (tape : Found) (w : ℕ) → ((p : ℕ) → tape ≡ At p → view_of u w p ≡ view_of s w p) → view_in u w tape ≡ view_in s w tape
-view_in_lem s u (At p) w rows = ap shown (rows p refl)
-view_in_lem s u Nothing w rows = refl
+pub view_in_lem : (s u : List ℕ) (tape : Option ℕ) (w : ℕ) → ((p : ℕ) → tape ≡ Some p → view_of u w p ≡ view_of s w p) → view_in u w tape ≡ view_in s w tape
+view_in_lem s u (Some p) w rows = ap shown (rows p refl)
+view_in_lem s u None w rows = refl
 
-pub touched-in : (s u : List ℕ) (tape : Found) → ((p : ℕ) → tape ≡ At p → staged_of u p ≡ staged_of s p) → touched_in u tape ≡ touched_in s tape
-touched-in s u (At p) rows = ap (λ (r : Staged). r.touched) (rows p refl)
-touched-in s u Nothing rows = refl
+pub touched-in : (s u : List ℕ) (tape : Option ℕ) → ((p : ℕ) → tape ≡ Some p → staged_of u p ≡ staged_of s p) → touched_in u tape ≡ touched_in s tape
+touched-in s u (Some p) rows = ap (λ (r : Staged). r.touched) (rows p refl)
+touched-in s u None rows = refl
 
-pub staged-in : (s u : List ℕ) (tape : Found) → ((p : ℕ) → tape ≡ At p → staged_of u p ≡ staged_of s p) → ((p : ℕ) → tape ≡ At p → view_of u 16 p ≡ view_of s 16 p)
+pub staged-in : (s u : List ℕ) (tape : Option ℕ) → ((p : ℕ) → tape ≡ Some p → staged_of u p ≡ staged_of s p) → ((p : ℕ) → tape ≡ Some p → view_of u 16 p ≡ view_of s 16 p)
     → staged_in u tape ≡ staged_in s tape
-staged-in s u (At p) rows views = ap shown (seen_as s u p (rows p refl) (views p refl))
-staged-in s u Nothing rows views = refl
+staged-in s u (Some p) rows views = ap shown (seen_as s u p (rows p refl) (views p refl))
+staged-in s u None rows views = refl
 
-live_in : (s u : List ℕ) (tape : Found) → ((p : ℕ) → tape ≡ At p → handle_of u p ≡ handle_of s p) → is_open_tape u tape ≡ is_open_tape s tape
-live_in s u (At p) rows = rw (number-row s u p (rows p refl))
-live_in s u Nothing rows = refl
+live_in : (s u : List ℕ) (tape : Option ℕ) → ((p : ℕ) → tape ≡ Some p → handle_of u p ≡ handle_of s p) → is_open_tape u tape ≡ is_open_tape s tape
+live_in s u (Some p) rows = rw (number-row s u p (rows p refl))
+live_in s u None rows = refl
 
-handle-in : (s u : List ℕ) (tape : Found) → ((p : ℕ) → tape ≡ At p → handle_of u p ≡ handle_of s p) → handle_in u tape ≡ handle_in s tape
-handle-in s u (At p) rows = number-row s u p (rows p refl)
-handle-in s u Nothing rows = refl
+handle-in : (s u : List ℕ) (tape : Option ℕ) → ((p : ℕ) → tape ≡ Some p → handle_of u p ≡ handle_of s p) → handle_in u tape ≡ handle_in s tape
+handle-in s u (Some p) rows = number-row s u p (rows p refl)
+handle-in s u None rows = refl
 
-entry_in_lem : (s u : List ℕ) (tape : Found) → ((p : ℕ) → tape ≡ At p → handle_of u p ≡ handle_of s p) → entry_in u tape ≡ entry_in s tape
-entry_in_lem s u (At p) rows = entry_row s u p (rows p refl)
-entry_in_lem s u Nothing rows = refl
+entry_in_lem : (s u : List ℕ) (tape : Option ℕ) → ((p : ℕ) → tape ≡ Some p → handle_of u p ≡ handle_of s p) → entry_in u tape ≡ entry_in s tape
+entry_in_lem s u (Some p) rows = entry_row s u p (rows p refl)
+entry_in_lem s u None rows = refl
 
 module _ (s u n : List ℕ) (place : place_of u n ≡ place_of s n) where
-  pub view-rows : (w : ℕ) → ((p : ℕ) → place_of s n ≡ At p → view_of u w p ≡ view_of s w p) → view_in u w (place_of u n) ≡ view_in s w (place_of s n)
+  pub view-rows : (w : ℕ) → ((p : ℕ) → place_of s n ≡ Some p → view_of u w p ≡ view_of s w p) → view_in u w (place_of u n) ≡ view_in s w (place_of s n)
   view-rows w rows = ap (view_in u w) place ∙ view_in_lem s u (place_of s n) w rows
 
-  module _ (rows : (p : ℕ) → place_of s n ≡ At p → handle_of u p ≡ handle_of s p) where
+  module _ (rows : (p : ℕ) → place_of s n ≡ Some p → handle_of u p ≡ handle_of s p) where
     pub live-rows : is_open_tape u (place_of u n) ≡ is_open_tape s (place_of s n)
     live-rows = ap (is_open_tape u) place ∙ live_in s u (place_of s n) rows
 
@@ -152,7 +150,7 @@ module _ (d s : List ℕ) (o : Orderly d s) (p : ℕ) (low : p < 8) where
 
 -- ---- what is seen of the tape in a place
 
-module _ (d s n : List ℕ) (st : Store) (seen : Seen d s n st) (p : ℕ) (found : place_of s n ≡ At p) where
+module _ (d s n : List ℕ) (st : Store) (seen : Seen d s n st) (p : ℕ) (found : place_of s n ≡ Some p) where
   pub list_at : shown (view_of s 17 p) ≡ record { listed = st.listed; len = st.len; start = st.start }
   list_at = sym (ap (view_in s 17) found) ∙ seen.list
 

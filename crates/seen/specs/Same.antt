@@ -1,7 +1,6 @@
 -- A call that leaves what is seen of a tape: where these rows are as before, so is all of it. Assumes nothing.
-use Rattle.std.specs.Prelude.{◌≡◌, List, ℕ, ◌<◌}
+use Rattle.std.specs.Prelude.{◌≡◌, List, ℕ, ◌<◌, Some}
 use Rattle.std.proofs.Common.{sym, ap, ◌∙◌, arith}
-use Rattle.octets.specs.declared.Found.TheVariants.{At}
 use Rattle.session.specs.declared.tape_rows.Staged.{Staged}
 use Rattle.session.specs.Rows.{head_of, view_of, transaction_of, handle_of, ring_of, ring_bytes, staged_of}
 use Rattle.staging.specs.Seeing.{touched_as}
@@ -23,7 +22,7 @@ pub record Same (d s e u n : List ℕ) : Type 0 where
   pub last : (head_of u).last_transaction ≡ (head_of s).last_transaction
   pub place : place_of u n ≡ place_of s n
   pub transactions : (t : ℕ) → t < 17 → transaction_of u t ≡ transaction_of s t
-  pub tape : (p : ℕ) → place_of s n ≡ At p → SameTape s u p
+  pub tape : (p : ℕ) → place_of s n ≡ Some p → SameTape s u p
   pub files : files_for e u n ≡ files_for d s n
 
 -- what is seen of it, from its rows
@@ -47,7 +46,7 @@ seen_same d s e u n st same seen =
       live = live-rows s u n same.place (λ p at. (rows p at).handle) ∙ seen.live;
       files = same.files ∙ seen.files;
       opened = λ p found live.
-          let q : place_of s n ≡ At p = sym same.place ∙ found in
+          let q : place_of s n ≡ Some p = sym same.place ∙ found in
           let r = rows p q in
           let o = seen.opened p q live in
           record {

@@ -1,12 +1,10 @@
 -- A staged record put in the row of a handle's tape, which is all that `shift_start`, `truncate_tape`, `drop_entries` and `pop_entry` do to the areas
 -- (`Cuts.antt` has the last three); and that `shift_start` is the model's `shift`. Assumes nothing.
-use Rattle.std.specs.Prelude.{◌≡◌, refl, ◌≢◌, Bool, List, ℕ, ◌+◌, ◌*◌, ◌≤◌, ◌<◌, max}
+use Rattle.std.specs.Prelude.{◌≡◌, refl, ◌≢◌, Bool, List, ℕ, ◌+◌, ◌*◌, ◌≤◌, ◌<◌, max, Option, Some, None}
 use Rattle.std.proofs.Common.{sym, ap, ◌∙◌, arith, eq-eqb, le-leb}
 use Rattle.std.proofs.Math.Path.{subst}
 use Rattle.std.proofs.Math.Bool.{true}
 use Rattle.octets.specs.Only.{OnlyIn}
-use Rattle.octets.specs.declared.Found.{Found}
-use Rattle.octets.specs.declared.Found.TheVariants.{At, Nothing}
 use Rattle.answers.specs.Answers.{code_of}
 use Rattle.components.specs.BoundsLaws.{up_to-true}
 use Rattle.layout.specs.Disk.{directories}
@@ -40,7 +38,7 @@ use Rattle.seen.specs.Kinds.{writes-kind, writes_as, writes-open}
 
 -- what is known of it
 pub record PutRow (s : List ℕ) (h p : ℕ) (row : Staged) : Type 0 where
-  pub found : find_handle s h ≡ At p
+  pub found : find_handle s h ≡ Some p
   pub writer : is_open_at s 16 ≡ true
   pub fits : StagedFits row
   pub touched : row.touched ≡ true
@@ -80,9 +78,9 @@ module _ (d s : List ℕ) (o : Orderly d s) (h p : ℕ) (row : Staged) (put : Pu
   put-files : (n : List ℕ) → files_for d u n ≡ files_for d s n
   put-files n = by (find_name d directories n)
     where
-      by : (found : Found) → files_in d u found ≡ files_in d s found
-      by (At place) = ap (λ t. files_of (disk_of d) t place) row_put.tracking
-      by Nothing = refl
+      by : (found : Option ℕ) → files_in d u found ≡ files_in d s found
+      by (Some place) = ap (λ t. files_of (disk_of d) t place) row_put.tracking
+      by None = refl
 
   put-others : (n : List ℕ) (h' entry : ℕ) → Handled s n h' entry → h' ≢ h → (st : Store) → Seen d s n st → Seen d u n st
   put-others n = seen-others d s d u h p put-frame (handle-number s h p put.found) row_put.others n (put-files n)
@@ -91,7 +89,7 @@ module _ (d s : List ℕ) (o : Orderly d s) (h p : ℕ) (row : Staged) (put : Pu
   on-handle = record { orderly = put-orderly; frame = put-frame; others = put-others; handled = frame-handled d s d u put-frame }
 
   -- its own tape
-  pub put-row-own : (n : List ℕ) → place_of s n ≡ At p → (st : Store) → row.unwritten ≡ st.held.unwritten → (st.listed ≡ true → row.base ≡ st.len) → Seen d s n st
+  pub put-row-own : (n : List ℕ) → place_of s n ≡ Some p → (st : Store) → row.unwritten ≡ st.held.unwritten → (st.listed ≡ true → row.base ≡ st.len) → Seen d s n st
       → Seen d u n (staged st (writer_with s row) st.held)
   put-row-own n at st unwritten base seen =
       let rows = seen.opened p at (sym seen.live ∙ live_at s n p at (handle-found s h p put.found).held) in
@@ -130,7 +128,7 @@ shifted_row s p to =
       unwritten = (touched_as s p).unwritten;
     }
 
-module _ (d s : List ℕ) (o : Orderly d s) (k h p to : ℕ) (found : find_handle s h ≡ At p) (writer : writes s k ≡ true) (listed : (seen_by s 16 p).listed ≡ true)
+module _ (d s : List ℕ) (o : Orderly d s) (k h p to : ℕ) (found : find_handle s h ≡ Some p) (writer : writes s k ≡ true) (listed : (seen_by s 16 p).listed ≡ true)
     (within : to ≤ (touched_as s p).len) where
   shift-put : PutRow s h p (shifted_row s p to)
   unfolding shifted
@@ -152,7 +150,7 @@ module _ (d s : List ℕ) (o : Orderly d s) (k h p to : ℕ) (found : find_handl
   unfolding shifted
   shifted-on = on-handle d s o h p (shifted_row s p to) shift-put
 
-  shifted-own : (n : List ℕ) → place_of s n ≡ At p → (st : Store) → Seen d s n st → Leads d (shifted s p to) n (step (shift k to) st) 0
+  shifted-own : (n : List ℕ) → place_of s n ≡ Some p → (st : Store) → Seen d s n st → Leads d (shifted s p to) n (step (shift k to) st) 0
   unfolding shifted
   shifted-own n at st seen =
       let held = (handle-found s h p found).held in

@@ -1,8 +1,7 @@
 -- The tape that the writer stages: what the model's writer is, and what is seen of the tape once its staged record is another one. Assumes nothing.
-use Rattle.std.specs.Prelude.{◌≡◌, refl, ◌≢◌, Bool, true, cond, List, ℕ, ◌<◌}
+use Rattle.std.specs.Prelude.{◌≡◌, refl, ◌≢◌, Bool, true, cond, List, ℕ, ◌<◌, Some}
 use Rattle.std.proofs.Common.{sym, ap, ◌∙◌, subst, true≢false, arith}
 use Rattle.octets.specs.Cases.{decide}
-use Rattle.octets.specs.declared.Found.TheVariants.{At}
 use Rattle.layout.specs.NamesLaws.{name-low}
 use Rattle.layout.specs.Session.{names_at, handle_number}
 use Rattle.session.specs.declared.head.Head.{Head}
@@ -63,7 +62,7 @@ seen-row s p e = rw e
 
 -- ---- the tape of a name, open in place p
 
-module _ (d s n : List ℕ) (o : Orderly d s) (p : ℕ) (at : place_of s n ≡ At p) (held : handle_number s p ≢ 0) (st : Store) (seen : Seen d s n st) where
+module _ (d s n : List ℕ) (o : Orderly d s) (p : ℕ) (at : place_of s n ≡ Some p) (held : handle_number s p ≢ 0) (st : Store) (seen : Seen d s n st) where
   pub its-live : st.live ≡ true
   its-live = sym seen.live ∙ live_at s n p at held
 
@@ -98,7 +97,7 @@ module _ (d s n : List ℕ) (o : Orderly d s) (p : ℕ) (at : place_of s n ≡ A
 
 pub record Touching (d s e u n : List ℕ) (p : ℕ) (row : Staged) (h : Held) : Type 0 where
   pub frame : Frame d s e u
-  pub at : place_of s n ≡ At p
+  pub at : place_of s n ≡ Some p
   pub ring : ring_of u p ≡ h.ring
   pub cache : ring_bytes u p ≡ h.cache
   pub files : files_for e u n ≡ h.files
@@ -115,7 +114,7 @@ writer_with s row =
     writer_as (transaction_of s 16).kind (transaction_of s 16).number (transaction_of s 16).epoch (record { listed = true; len = row.len; start = row.start })
 
 module _ (d s e u n : List ℕ) (p : ℕ) (row : Staged) (h : Held) (c : Touching d s e u n p row h) where
-  place-now : place_of u n ≡ At p
+  place-now : place_of u n ≡ Some p
   place-now = frame-place d s e u c.frame n ∙ c.at
 
   touched-there : (staged_of u p).touched ≡ true

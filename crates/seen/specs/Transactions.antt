@@ -1,9 +1,8 @@
 -- Where an open transaction is found by its number: in one place, since no number is given twice. Assumes nothing.
-use Rattle.std.specs.Prelude.{◌≡◌, Bool, true, ◌&&◌, List, ℕ, ◌<◌, eqb}
+use Rattle.std.specs.Prelude.{◌≡◌, Bool, true, ◌&&◌, List, ℕ, ◌<◌, eqb, Some}
 use Rattle.std.proofs.Common.{sym, ◌∙◌, arith, eq-eqb, eqb-true}
 use Rattle.octets.specs.Cases.{decide, and_l, and_r, and_both}
 use Rattle.octets.specs.First.{first, first-same, first-at, first-hits}
-use Rattle.octets.specs.declared.Found.TheVariants.{At}
 use Rattle.session.specs.Meaning.{session_of}
 use Rattle.session.specs.MeaningLaws.{transaction-at, is_open}
 use Rattle.session.specs.MeaningLaws as ML
@@ -24,7 +23,7 @@ find-rows s k =
 -- a transaction of the number is open
 pub record HasPlace (s : List ℕ) (k : ℕ) : Type 0 where
   pub place : ℕ
-  pub found : find_transaction s k ≡ At place
+  pub found : find_transaction s k ≡ Some place
 
 -- and it stands in place t
 pub record OpenAs (s : List ℕ) (k t : ℕ) : Type 0 where
@@ -32,7 +31,7 @@ pub record OpenAs (s : List ℕ) (k t : ℕ) : Type 0 where
   pub opened : is_open_at s t ≡ true
   pub number : (transaction_of s t).number ≡ k
 
-pub found-transaction : (s : List ℕ) (k t : ℕ) → find_transaction s k ≡ At t → OpenAs s k t
+pub found-transaction : (s : List ℕ) (k t : ℕ) → find_transaction s k ≡ Some t → OpenAs s k t
 found-transaction s k t e =
     let hit = first-hits (is_numbered s k) 17 0 t (sym (find-rows s k) ∙ e) in
     record {
@@ -42,7 +41,7 @@ found-transaction s k t e =
     }
 
 -- numbers are not given twice
-pub find-transaction : (d s : List ℕ) → Orderly d s → (k t : ℕ) → OpenAs s k t → find_transaction s k ≡ At t
+pub find-transaction : (d s : List ℕ) → Orderly d s → (k t : ℕ) → OpenAs s k t → find_transaction s k ≡ Some t
 find-transaction d s o k t a =
     find-rows s k
     ∙ first-at (is_numbered s k) 17 0 t

@@ -1,12 +1,10 @@
 -- Where no session was begun, every call but `format` and `store` is refused with 1 and changes no lent byte. Each law is over the whole outcome; of calls
 -- that are lent an area to be read alone, the outcome does not name it. Assumes nothing.
-use Rattle.std.specs.Prelude.{◌≡◌, false, List, ℕ}
+use Rattle.std.specs.Prelude.{◌≡◌, false, List, ℕ, Some, Ok, Err}
 use Rattle.std.proofs.Math.Path.{ap}
 use Rattle.std.proofs.Common.{◌∙◌}
 use Rattle.octets.specs.Cases.{decide}
 use Rattle.answers.specs.Outcome.{Reading, refused_at, refused_read, entering, refused_pop}
-use Rattle.answers.specs.declared.Answer.TheVariants.{Refused}
-use Rattle.answers.specs.declared.OneEntry.TheVariants as One
 use Rattle.answers.specs.declared.Refusal.TheVariants.{Unusable}
 use Rattle.layout.specs.Disk as D
 use Rattle.layout.specs.Session.{begun}
@@ -56,7 +54,7 @@ module _ (d s : List ℕ) (ended : begun s ≡ false) where
     pub open-unbegun : (wanted : List ℕ) (entry fs cache start : ℕ) → open_call d s t wanted entry fs cache start ≡ refused_at Unusable d s
     open-unbegun wanted entry fs cache start = open-unusable d s t wanted entry fs cache start unusable
 
-    pub exists-unbegun : (wanted : List ℕ) → exists_call d s t wanted ≡ Refused Unusable
+    pub exists-unbegun : (wanted : List ℕ) → exists_call d s t wanted ≡ Err Unusable
     exists-unbegun wanted = exists-unusable d s t wanted unusable
 
     -- ---- calls on a handle
@@ -74,10 +72,10 @@ module _ (d s : List ℕ) (ended : begun s ≡ false) where
       pub drop-unbegun : (count : ℕ) → drop_call d s t h count ≡ refused Unusable s
       drop-unbegun count = Staging.drop-unusable d s t h count unusable
 
-      pub len-unbegun : len_call d s t h ≡ Refused Unusable
+      pub len-unbegun : len_call d s t h ≡ Err Unusable
       len-unbegun = len-unusable d s t h unusable
 
-      pub start-unbegun : start_call d s t h ≡ Refused Unusable
+      pub start-unbegun : start_call d s t h ≡ Err Unusable
       start-unbegun = start-unusable d s t h unusable
 
       pub pop-unbegun : (out : List ℕ) → pop_call d s t h out ≡ refused_pop Unusable s out
@@ -86,6 +84,6 @@ module _ (d s : List ℕ) (ended : begun s ≡ false) where
       pub read-unbegun : (i n : ℕ) (out : List ℕ) → read_call d s t h i n out ≡ refused_read Unusable out
       read-unbegun i n out = read-unusable d s t h i n out unusable
 
-      pub entry-unbegun : (i : ℕ) (out : List ℕ) → entry_call d s t h i out ≡ entering (One.Refused Unusable) out
+      pub entry-unbegun : (i : ℕ) (out : List ℕ) → entry_call d s t h i out ≡ entering (Err Unusable) out
       unfolding entry_call
       entry-unbegun i out = ap (λ (r : Reading). entering (one_of i r.answer) r.buffer) (read-unbegun i 1 out)

@@ -1,13 +1,12 @@
 -- An append waits for older readers here exactly where it waits for them there: 4 with their number on both sides, and what is served here is served there
 -- too. Assumes nothing.
 use Rattle.std.proofs.Math.Path.{◌≡◌, ap}
-use Rattle.std.specs.Prelude.{refl, ◌≢◌, Bool, false, cond, ◌&&◌, List, ℕ, ◌<◌, eqb}
+use Rattle.std.specs.Prelude.{refl, ◌≢◌, Bool, false, cond, ◌&&◌, List, ℕ, ◌<◌, eqb, Err}
 use Rattle.std.proofs.Common.{sym, ◌∙◌, true≢false, arith, lt-ltb, eqb-true}
 use Rattle.std.proofs.Math.Bool.{true}
 use Rattle.std.proofs.Math.Dec.{ltb}
 use Rattle.octets.specs.Cases.{decide, order, equal}
 use Rattle.answers.specs.Answers.{code_of}
-use Rattle.answers.specs.declared.Answer.TheVariants.{Refused}
 use Rattle.answers.specs.declared.Refusal.TheVariants.{Wait}
 use Rattle.components.specs.Epochs.{older}
 use Rattle.layout.specs.Session.{kind_word, Begun}
@@ -40,7 +39,7 @@ record Waiting (s : List ℕ) (v : ℕ) : Type 0 where
   some : 0 < waits s
   number : waits s ≡ v
 
-waiting : (d s : List ℕ) (v : ℕ) → (append_call d s).answer ≡ Refused (Wait v) → Waiting s v
+waiting : (d s : List ℕ) (v : ℕ) → (append_call d s).answer ≡ Err (Wait v) → Waiting s v
 waiting d s v e =
     let clash : (a : After) → append_call d s ≡ a → code_of a.answer ≢ 4 → Waiting s v
     = λ a q other. absurd (other (ap (λ (x : After). code_of x.answer) (sym q) ∙ ap code_of e)) in
@@ -53,14 +52,14 @@ waiting d s v e =
     (λ c.
     order 0 (waits s)
     (λ l.
-    let q : (append_call d s).answer ≡ Refused (Wait (waits s)) = ap (λ (x : After). x.answer) (append-waits d s ok f c l) in
+    let q : (append_call d s).answer ≡ Err (Wait (waits s)) = ap (λ (x : After). x.answer) (append-waits d s ok f c l) in
     record { free = f; cut = c; some = l; number = cc })
     (λ l. clash _ (append-alone d s ok f c l) (begin-other s 16 Append)))
     (λ c. clash _ (append-uncut d s ok f c) (begin-other s 16 Append))))
     (λ bad. clash _ (append-unusable d s bad) (λ z. omega arith))
 
 module _ (d s n : List ℕ) (st : Store) (seen : Seen d s n st) where
-  pub wait-told : (v : ℕ) → (append_call d s).answer ≡ Refused (Wait v) → (step L.append st).answer ≡ L.Refused 4 v
+  pub wait-told : (v : ℕ) → (append_call d s).answer ≡ Err (Wait v) → (step L.append st).answer ≡ L.Refused 4 v
   unfolding step
   wait-told v e =
       let w = waiting d s v e in

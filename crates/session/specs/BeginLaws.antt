@@ -1,13 +1,12 @@
 -- What a new session means, and that it keeps the layout rule; and that an ended one is none. Assumes nothing.
-use Rattle.std.specs.Prelude.{◌≡◌, ◌≢◌, true, false, eqb, replicate}
+use Rattle.std.specs.Prelude.{◌≡◌, ◌≢◌, true, false, eqb, replicate, Option, Some, None, slice_get}
 use Rattle.std.proofs.Math.Path.{refl, ap, fun_ext}
 use Rattle.std.proofs.Common.{sym, ◌∙◌, zero-add, add-zero, eq-eqb, ne_eqb}
 use Rattle.std.proofs.Math.Bool.{cond}
 use mathlib.Core.List.{List, [], ◌∷◌, ◌++◌, append-nil}
-use Rattle.std.proofs.Math.Option.{Option, none, some}
 use Prim.Native.Nat.{ℕ, zero, suc, ◌+◌, ◌*◌, ◌≤◌, ◌<◌, ◌^◌}
 use native.Mathlib.Omega.{arith}
-use Rattle.std.proofs.Math.ListN.{length, get_elem?, length-append}
+use Rattle.std.proofs.Math.ListN.{length, length-append}
 use Rattle.std.proofs.Math.Seq.{append_snoc}
 use Rattle.octets.specs.Bytes.{put, length-put}
 use Rattle.octets.specs.Number.{num_at, put_num, length-put_num, num_at-put_num-same, num_at-put_num-other, num_at-put-zeros}
@@ -32,12 +31,12 @@ use Rattle.session.specs.KeepLaws.{begun-ready, begun-put_name, begun-put_view}
 -- ---- the meaning of a new session
 
 abbrev pub name_of : Option Tape → List ℕ
-name_of none = []
-name_of (some t) = t.name
+name_of None = []
+name_of (Some t) = t.name
 
 abbrev pub view_for : Option Tape → View
-view_for none = no_view
-view_for (some t) = record { listed = true; len = t.len; start = t.start }
+view_for None = no_view
+view_for (Some t) = record { listed = true; len = t.len; start = t.start }
 
 abbrev pub new_head : ℕ → Side → Head
 new_head epoch side = record { epoch = epoch; cut = false; side = side; last_transaction = 0; last_handle = 0 }
@@ -47,8 +46,8 @@ unfoldable pub started : (ℕ → List ℕ) → ℕ → Side → List Tape → S
 started cache epoch side ts =
     record {
       head = new_head epoch side;
-      name = λ p. name_of (get_elem? ts p);
-      view = λ w. cond (eqb w 17) (λ p. view_for (get_elem? ts p)) no_views;
+      name = λ p. name_of (slice_get ts p);
+      view = λ w. cond (eqb w 17) (λ p. view_for (slice_get ts p)) no_views;
       transaction = λ t. closed;
       handle = λ p. no_handle;
       ring = λ p. no_ring;
@@ -64,7 +63,7 @@ pub record Listable (t : Tape) : Type 0 where
   pub start : t.start < 256 ^ 8
 
 abbrev pub AllListable : List Tape → Type 0
-AllListable ts = (i : ℕ) (t : Tape) → get_elem? ts i ≡ some t → Listable t
+AllListable ts = (i : ℕ) (t : Tape) → slice_get ts i ≡ Some t → Listable t
 
 -- ---- everything but the rings cleared
 
@@ -98,15 +97,15 @@ module _ (s : List ℕ) (long : session_bytes ≤ length s) (epoch : ℕ) (side 
   pub begun-cleared : Begun (cleared s epoch side)
   begun-cleared =
       let same = length-cleared in
-      let none : (b : ℕ) → names_at ≤ b → b + 8 ≤ 5960 → num_at 8 (cleared s epoch side) b ≡ 0 = word-cleared in
+      let None : (b : ℕ) → names_at ≤ b → b + 8 ≤ 5960 → num_at 8 (cleared s epoch side) b ≡ 0 = word-cleared in
       record {
         long = omega arith;
         marked = mark-cleared;
-        names = record { room = omega arith; short = λ i l. rw (none (place_at names_at i) (omega arith) (omega arith)) (omega arith) };
-        readers = λ t l. rw (none (transaction_at t) (omega arith) (omega arith)) (omega arith);
-        writer-apart = λ e. let z = none (transaction_at 16) (omega arith) (omega arith) in absurd (omega arith);
-        writer = rw (none (transaction_at 16) (omega arith) (omega arith)) (omega arith);
-        tapes = λ p l d. absurd (d (none (tape_at p) (omega arith) (omega arith)));
+        names = record { room = omega arith; short = λ i l. rw (None (place_at names_at i) (omega arith) (omega arith)) (omega arith) };
+        readers = λ t l. rw (None (transaction_at t) (omega arith) (omega arith)) (omega arith);
+        writer-apart = λ e. let z = None (transaction_at 16) (omega arith) (omega arith) in absurd (omega arith);
+        writer = rw (None (transaction_at 16) (omega arith) (omega arith)) (omega arith);
+        tapes = λ p l d. absurd (d (None (tape_at p) (omega arith) (omega arith)));
       }
 
   -- so each row is the one where there is nothing
@@ -169,7 +168,7 @@ module _ (s : List ℕ) (long : session_bytes ≤ length s) (epoch : ℕ) (side 
 -- ---- the tapes of the list
 
 -- a list with one more tape
-pub elem-more : (xs : List Tape) (t : Tape) (q : ℕ) → get_elem? (xs ++ (t ∷ [])) q ≡ cond (eqb q (length xs)) (some t) (get_elem? xs q)
+pub elem-more : (xs : List Tape) (t : Tape) (q : ℕ) → slice_get (xs ++ (t ∷ [])) q ≡ cond (eqb q (length xs)) (Some t) (slice_get xs q)
 elem-more [] t zero = refl
 elem-more [] t (suc q) = rw (ne_eqb (suc q) 0 (λ e. absurd (omega arith)))
 elem-more (x ∷ xs) t zero = rw (ne_eqb 0 (suc (length xs)) (λ e. absurd (omega arith)))
@@ -218,7 +217,7 @@ module _ (cache : ℕ → List ℕ) (epoch : ℕ) (side : Side) where
 
 -- the layout rule stays: of a list it looks at the names' lengths alone
 abbrev pub AllShort : List Tape → Type 0
-AllShort ts = (i : ℕ) (t : Tape) → get_elem? ts i ≡ some t → length t.name ≤ 24
+AllShort ts = (i : ℕ) (t : Tape) → slice_get ts i ≡ Some t → length t.name ≤ 24
 
 begun-listed_from : (s : List ℕ) (p : ℕ) (ts : List Tape) → Begun s → p + length ts ≤ 8 → AllShort ts → Begun (listed_from s p ts)
 unfolding listed_from listed
@@ -241,25 +240,25 @@ module _ (s : List ℕ) (long : session_bytes ≤ length s) (epoch : ℕ) (side 
       session-listed_from (session_of s).cache epoch side (cleared s epoch side) [] ts (begun-cleared s long epoch side) (omega arith) fit
       (session-cleared s long epoch side f)
 
-  pub running-begin : epoch < 256 ^ 8 → running (begin_session s epoch side ts) ≡ some (started (session_of s).cache epoch side ts)
+  pub running-begin : epoch < 256 ^ 8 → running (begin_session s epoch side ts) ≡ Some (started (session_of s).cache epoch side ts)
   unfolding running
   running-begin f = rw ((begun-begin s long epoch side ts few (λ i t e. (fit i t e).short)).marked, session-begin f)
 
 -- and it has the list
 module _ (cache : ℕ → List ℕ) (epoch : ℕ) (side : Side) (us : List Tape) where
-  list-from : (k p : ℕ) (ts : List Tape) → length ts ≤ k → ((i : ℕ) → get_elem? us (p + i) ≡ get_elem? ts i) → list_from (started cache epoch side us) k p ≡ ts
+  list-from : (k p : ℕ) (ts : List Tape) → length ts ≤ k → ((i : ℕ) → slice_get us (p + i) ≡ slice_get ts i) → list_from (started cache epoch side us) k p ≡ ts
   unfolding list_from started
   list-from zero p [] few same = refl
   list-from zero p (t ∷ ts) few same = absurd (omega arith)
   list-from (suc k) p [] few same =
-      rw (sym (ap (λ (q : ℕ). get_elem? us q) (add-zero p)) ∙ same 0)
-      (list-from k (p + 1) [] (omega arith) (λ i. let e : p + 1 + i ≡ p + suc i = omega arith in ap (λ (q : ℕ). get_elem? us q) e ∙ same (suc i)))
+      rw (sym (ap (λ (q : ℕ). slice_get us q) (add-zero p)) ∙ same 0)
+      (list-from k (p + 1) [] (omega arith) (λ i. let e : p + 1 + i ≡ p + suc i = omega arith in ap (λ (q : ℕ). slice_get us q) e ∙ same (suc i)))
   list-from (suc k) p (t ∷ ts) few same =
-      rw (sym (ap (λ (q : ℕ). get_elem? us q) (add-zero p)) ∙ same 0)
-      (ap (λ (l : List Tape). t ∷ l) (list-from k (p + 1) ts (omega arith) (λ i. let e : p + 1 + i ≡ p + suc i = omega arith in ap (λ (q : ℕ). get_elem? us q) e ∙ same (suc i))))
+      rw (sym (ap (λ (q : ℕ). slice_get us q) (add-zero p)) ∙ same 0)
+      (ap (λ (l : List Tape). t ∷ l) (list-from k (p + 1) ts (omega arith) (λ i. let e : p + 1 + i ≡ p + suc i = omega arith in ap (λ (q : ℕ). slice_get us q) e ∙ same (suc i))))
 
   pub list-started : length us ≤ 8 → list_in (started cache epoch side us) ≡ us
-  list-started few = list-from 8 0 us few (λ i. ap (λ (q : ℕ). get_elem? us q) (zero-add i))
+  list-started few = list-from 8 0 us few (λ i. ap (λ (q : ℕ). slice_get us q) (zero-add i))
 
 -- ---- an ended one
 
@@ -275,7 +274,7 @@ module _ (s : List ℕ) (long : session_bytes ≤ length s) where
   pub sound-ended : sound (ended s) ≡ true
   sound-ended = ended-sound (ended s) (rw length-ended long) mark-ended
 
-  pub running-ended : running (ended s) ≡ none
+  pub running-ended : running (ended s) ≡ None
   unfolding running
   running-ended = rw mark-ended
 

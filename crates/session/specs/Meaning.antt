@@ -1,7 +1,6 @@
 -- What the bytes of a session mean: its own fields, its tapes by place, with names, handles, rings and staged records, its transactions with their views,
 -- the list of the last commit, and the tracking of files by slot. Assumes nothing.
-use Rattle.std.specs.Prelude.{false, cond, List, [], ◌∷◌, ℕ, zero, suc, ◌+◌, eqb}
-use Rattle.std.proofs.Math.Option.{Option, none, some}
+use Rattle.std.specs.Prelude.{false, cond, List, [], ◌∷◌, ℕ, zero, suc, ◌+◌, eqb, Option, Some, None}
 use Rattle.octets.specs.Number.{num_at}
 use Rattle.octets.specs.Words.{table}
 use Rattle.layout.specs.Names.{names}
@@ -72,7 +71,7 @@ session_of s =
 
 -- the session that an area holds; none where none was begun
 unfoldable pub running : List ℕ → Option Session
-running s = cond (eqb (num_at 8 s 0) mark) (some (session_of s)) none
+running s = cond (eqb (num_at 8 s 0) mark) (Some (session_of s)) None
 
 -- the list of the last commit, by tape place
 unfoldable pub list_from : Session → ℕ → ℕ → List Tape

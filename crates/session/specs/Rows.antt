@@ -1,10 +1,9 @@
 -- The rows of the session's area (`docs/LAYOUT.md`): what each function reads, and what the area holds after it writes. Assumes nothing.
-use Rattle.std.specs.Prelude.{Bool, true, false, cond, not, ◌&&◌, List, [], ◌∷◌, ℕ, ◌+◌, eqb, take, drop}
+use Rattle.std.specs.Prelude.{Bool, true, false, cond, not, ◌&&◌, List, [], ◌∷◌, ℕ, ◌+◌, eqb, take, drop, Option}
 use Rattle.octets.specs.Bytes.{put}
 use Rattle.octets.specs.Number.{num_at}
 use Rattle.octets.specs.First.{first}
 use Rattle.octets.specs.Words.{put_words}
-use Rattle.octets.specs.declared.Found.{Found}
 use Rattle.layout.specs.Session.{head_at, views_at, view_at, transaction_at, kind_word, tape_at, tape_word, handle_number, tracking_at, ring_at}
 use Rattle.metadata.specs.declared.choice.Side.{Side}
 use Rattle.metadata.specs.declared.choice.Side.TheVariants.{Left, Right}
@@ -97,10 +96,10 @@ is_closed s t = eqb (kind_word s t) 0
 abbrev pub is_open_as : List ℕ → ℕ → ℕ → Bool
 is_open_as s n t = not (is_closed s t) && eqb (num_at 8 s (transaction_at t + 8)) n
 
-unfoldable pub find_transaction : List ℕ → ℕ → Found
+unfoldable pub find_transaction : List ℕ → ℕ → Option ℕ
 find_transaction s n = first (is_open_as s n) 17 0
 
-unfoldable pub free_reader : List ℕ → Found
+unfoldable pub free_reader : List ℕ → Option ℕ
 free_reader s = first (is_closed s) 16 0
 
 -- ---- a tape's row: handle, ring, staged record
@@ -143,7 +142,7 @@ put_staged s p r = put_words s (tape_at p + 56) (staged_words r)
 abbrev pub is_handle : List ℕ → ℕ → ℕ → Bool
 is_handle s n p = not (eqb n 0) && eqb (handle_number s p) n
 
-unfoldable pub find_handle : List ℕ → ℕ → Found
+unfoldable pub find_handle : List ℕ → ℕ → Option ℕ
 find_handle s n = first (is_handle s n) 8 0
 
 -- ---- tracking and marks, by slot

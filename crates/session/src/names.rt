@@ -4,7 +4,6 @@ ghost use Rattle.layout.specs.Session.{session_bytes, names_at};
 ghost use Rattle.layout.specs.Names.{NamesFit, name, find_name, put_name};
 
 use layout::Session;
-use octets::Found;
 
 // The name of a tape place, as a part of the area.
 pub fn tape_name<'a>(session: &'a [u8], tape: usize) -> &'a [u8]
@@ -15,7 +14,7 @@ pub fn tape_name<'a>(session: &'a [u8], tape: usize) -> &'a [u8]
 }
 
 // The first tape place with this name; of the empty name, the first free place.
-pub fn find_tape(session: &[u8], name: &[u8]) -> Found
+pub fn find_tape(session: &[u8], name: &[u8]) -> Option<usize>
     requires { NamesFit session.now names_at }
     ensures { result ≡ find_name session.now names_at name.now }
 {

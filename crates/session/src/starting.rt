@@ -42,7 +42,7 @@ fn list_tape(session: &mut [u8], place: usize, tape: TapeMetadata)
     requires { (session_bytes ≤ length session.old) × (place < 8) }
     ensures { session.new ≡ listed session.old place (meaning tape) }
 {
-    let letters = octets::smaller(tape.letters, TapeMetadata::MOST_LETTERS);
+    let letters = tape.letters.min(TapeMetadata::MOST_LETTERS);
     let name = tape.name;
     put_tape_name(session, place, &name[..letters]);
     put_view(
@@ -62,10 +62,8 @@ pub fn begin(session: &mut [u8], epoch: u64, side: Side, list: TapeList)
     ensures { session.new ≡ begin_session session.old epoch side (tapes_of list) }
 {
     clear(session, epoch, side);
-    let count = octets::smaller(list.count, TapeList::MOST_NAMES);
-    let mut i = 0;
-    while i < count {
+    let count = list.count.min(TapeList::MOST_NAMES);
+    for i in 0..count {
         list_tape(session, i, list.tapes[i]);
-        i += 1;
     }
 }

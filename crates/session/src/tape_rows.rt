@@ -6,7 +6,6 @@ ghost use Rattle.session.specs.Rows.{handle_of, put_handle, ring_of, put_ring, s
 
 use crate::words::{flag_word, is_set};
 use layout::Session;
-use octets::Found;
 use ring_buffer::RingBuffer;
 
 #[derive(Clone, Copy)]
@@ -154,16 +153,9 @@ fn is_handle(session: &[u8], tape: usize, number: u64) -> bool
 }
 
 // The tape that has a handle; none has the number 0.
-pub fn find_handle(session: &[u8], number: u64) -> Found
+pub fn find_handle(session: &[u8], number: u64) -> Option<usize>
     requires { session_bytes ≤ length session.now }
     ensures { result ≡ find_handle session.now number }
 {
-    let mut i = 0;
-    while i < Session::MOST_TAPES {
-        if is_handle(session, i, number) {
-            return Found::At(i);
-        }
-        i += 1;
-    }
-    Found::Nothing
+    octets::first(0, Session::MOST_TAPES, |tape| is_handle(session, tape, number))
 }

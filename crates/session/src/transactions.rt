@@ -5,7 +5,6 @@ ghost use Rattle.session.specs.Meaning.{closed};
 ghost use Rattle.session.specs.Rows.{kind_for, kind_code, transaction_of, put_transaction, is_open_as, is_closed, find_transaction, free_reader};
 
 use layout::Session;
-use octets::Found;
 
 #[derive(Clone, Copy)]
 pub enum Kind {
@@ -97,18 +96,11 @@ fn is_open_as(session: &[u8], place: usize, number: u64) -> bool
 }
 
 // The place of the open transaction of a number.
-pub fn find_transaction(session: &[u8], number: u64) -> Found
+pub fn find_transaction(session: &[u8], number: u64) -> Option<usize>
     requires { session_bytes ≤ length session.now }
     ensures { result ≡ find_transaction session.now number }
 {
-    let mut i = 0;
-    while i <= Session::WRITER {
-        if is_open_as(session, i, number) {
-            return Found::At(i);
-        }
-        i += 1;
-    }
-    Found::Nothing
+    octets::first(0, Session::WRITER + 1, |place| is_open_as(session, place, number))
 }
 
 fn is_closed(session: &[u8], place: usize) -> bool
@@ -122,16 +114,9 @@ fn is_closed(session: &[u8], place: usize) -> bool
 }
 
 // The first reader place that is closed.
-pub fn free_reader(session: &[u8]) -> Found
+pub fn free_reader(session: &[u8]) -> Option<usize>
     requires { session_bytes ≤ length session.now }
     ensures { result ≡ free_reader session.now }
 {
-    let mut i = 0;
-    while i < Session::MOST_READERS {
-        if is_closed(session, i) {
-            return Found::At(i);
-        }
-        i += 1;
-    }
-    Found::Nothing
+    octets::first(0, Session::MOST_READERS, |place| is_closed(session, place))
 }

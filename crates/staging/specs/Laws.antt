@@ -1,16 +1,13 @@
 -- Laws of the calls: the contracts leave nothing open, a refused call changes nothing, the layout rule is kept, and what is staged means what it says.
 -- Assumes nothing.
-use Rattle.std.specs.Prelude.{◌≡◌, refl, ◌≢◌, Bool, ◌&&◌, List, ℕ, ◌+◌, ◌*◌, ◌-◌, ◌/◌, ◌≤◌, ◌<◌, ◌^◌, eqb}
+use Rattle.std.specs.Prelude.{◌≡◌, refl, ◌≢◌, Bool, ◌&&◌, List, ℕ, ◌+◌, ◌*◌, ◌-◌, ◌/◌, ◌≤◌, ◌<◌, ◌^◌, eqb, Option, Some, None, Ok}
 use Rattle.std.proofs.Common.{sym, ap, ◌∙◌, div-mul-le_self, mul-le-mul_right}
 use Rattle.std.proofs.Math.Bool.{true}
 use native.Mathlib.Omega.{arith}
 use Rattle.octets.specs.Cases.{picked, decide}
 use Rattle.octets.specs.Number.{Bytes, num_at-lt}
-use Rattle.octets.specs.declared.Found.{Found}
-use Rattle.octets.specs.declared.Found.TheVariants.{At, Nothing}
 use Rattle.answers.specs.Answers.{code_of}
-use Rattle.answers.specs.declared.Answer.{Answer}
-use Rattle.answers.specs.declared.Answer.TheVariants.{Done}
+use Rattle.answers.specs.Answers.{Answer}
 use Rattle.answers.specs.declared.Refusal.{Refusal}
 use Rattle.answers.specs.declared.Refusal.TheVariants.{Unusable, Unknown, Absent, StartPastLength, LongerCut}
 use Rattle.components.specs.Bounds.{up_to, shifted_start}
@@ -60,7 +57,7 @@ module _ (d s : List ℕ) (t h : ℕ) (r r' : Answer) where
 pub record Goes (d s : List ℕ) (w : Bool) (h p i : ℕ) : Type 0 where
   pub sound : usable d s ≡ true
   pub writer : w ≡ true
-  pub found : find_handle s h ≡ At p
+  pub found : find_handle s h ≡ Some p
   pub listed : (seen_by s 16 p).listed ≡ true
   pub within : up_to (handle_of s p).entry i (seen_by s 16 p).len ≡ true
 
@@ -69,59 +66,59 @@ abbrev pub left : List ℕ → ℕ → ℕ → ℕ
 left s p n = (seen_by s 16 p).len / (handle_of s p).entry - n
 
 module _ (P : After → Type 0) (d s : List ℕ) (t h i : ℕ) (no : (why : Refusal) → P (refused why s)) where
-  pub shift-cases : ((p : ℕ) → Goes d s (writes s t) h p i → P (after (Done 0) (shifted s p (i * (handle_of s p).entry)))) → P (shift_call d s t h i)
+  pub shift-cases : ((p : ℕ) → Goes d s (writes s t) h p i → P (after (Ok 0) (shifted s p (i * (handle_of s p).entry)))) → P (shift_call d s t h i)
   unfolding shift_call shift_on
   shift-cases goes =
       picked P (usable d s) _ _
       (λ ok. picked P (writes s t) _ _ (λ w. on ok w (find_handle s h) refl) (λ w. no Unknown))
       (λ ok. no Unusable)
     where
-      on : usable d s ≡ true → writes s t ≡ true → (q : Found) → find_handle s h ≡ q → P (shift_in s i q)
-      on ok w (At p) e =
+      on : usable d s ≡ true → writes s t ≡ true → (q : Option ℕ) → find_handle s h ≡ q → P (shift_in s i q)
+      on ok w (Some p) e =
           picked P (seen_by s 16 p).listed _ _
           (λ l.
           picked P (up_to (handle_of s p).entry i (seen_by s 16 p).len) _ _
           (λ u. goes p (record { sound = ok; writer = w; found = e; listed = l; within = u }))
           (λ u. no StartPastLength))
           (λ l. no Absent)
-      on ok w Nothing e = no Unknown
+      on ok w None e = no Unknown
 
-  cut-on-cases : (p j : ℕ) → ((seen_by s 16 p).listed ≡ true → up_to (handle_of s p).entry j (seen_by s 16 p).len ≡ true → P (after (Done 0) (cut_to s p (j * (handle_of s p).entry)))) → P (cut_on s p j)
+  cut-on-cases : (p j : ℕ) → ((seen_by s 16 p).listed ≡ true → up_to (handle_of s p).entry j (seen_by s 16 p).len ≡ true → P (after (Ok 0) (cut_to s p (j * (handle_of s p).entry)))) → P (cut_on s p j)
   unfolding cut_on
   cut-on-cases p j goes =
       picked P (seen_by s 16 p).listed _ _
       (λ l. picked P (up_to (handle_of s p).entry j (seen_by s 16 p).len) _ _ (λ u. goes l u) (λ u. no LongerCut))
       (λ l. no Absent)
 
-  pub cut-cases : ((p : ℕ) → Goes d s (cuts s t) h p i → P (after (Done 0) (cut_to s p (i * (handle_of s p).entry)))) → P (cut_call d s t h i)
+  pub cut-cases : ((p : ℕ) → Goes d s (cuts s t) h p i → P (after (Ok 0) (cut_to s p (i * (handle_of s p).entry)))) → P (cut_call d s t h i)
   unfolding cut_call
   cut-cases goes =
       picked P (usable d s) _ _
       (λ ok. picked P (cuts s t) _ _ (λ w. on ok w (find_handle s h) refl) (λ w. no Unknown))
       (λ ok. no Unusable)
     where
-      on : usable d s ≡ true → cuts s t ≡ true → (q : Found) → find_handle s h ≡ q → P (cut_in s i q)
-      on ok w (At p) e = cut-on-cases p i (λ l u. goes p (record { sound = ok; writer = w; found = e; listed = l; within = u }))
-      on ok w Nothing e = no Unknown
+      on : usable d s ≡ true → cuts s t ≡ true → (q : Option ℕ) → find_handle s h ≡ q → P (cut_in s i q)
+      on ok w (Some p) e = cut-on-cases p i (λ l u. goes p (record { sound = ok; writer = w; found = e; listed = l; within = u }))
+      on ok w None e = no Unknown
 
-  pub drop-cases : ((p : ℕ) → Goes d s (cuts s t) h p (left s p i) → P (after (Done 0) (cut_to s p (left s p i * (handle_of s p).entry)))) → P (drop_call d s t h i)
+  pub drop-cases : ((p : ℕ) → Goes d s (cuts s t) h p (left s p i) → P (after (Ok 0) (cut_to s p (left s p i * (handle_of s p).entry)))) → P (drop_call d s t h i)
   unfolding drop_call drop_on
   drop-cases goes =
       picked P (usable d s) _ _
       (λ ok. picked P (cuts s t) _ _ (λ w. on ok w (find_handle s h) refl) (λ w. no Unknown))
       (λ ok. no Unusable)
     where
-      on : usable d s ≡ true → cuts s t ≡ true → (q : Found) → find_handle s h ≡ q → P (drop_in s i q)
-      on ok w (At p) e = cut-on-cases p (left s p i) (λ l u. goes p (record { sound = ok; writer = w; found = e; listed = l; within = u }))
-      on ok w Nothing e = no Unknown
+      on : usable d s ≡ true → cuts s t ≡ true → (q : Option ℕ) → find_handle s h ≡ q → P (drop_in s i q)
+      on ok w (Some p) e = cut-on-cases p (left s p i) (λ l u. goes p (record { sound = ok; writer = w; found = e; listed = l; within = u }))
+      on ok w None e = no Unknown
 
 -- a call that has found all that is served; of a drop nothing is left to be refused behind 11
-pub shift-done : (d s : List ℕ) (t h p i : ℕ) → Goes d s (writes s t) h p i → shift_call d s t h i ≡ after (Done 0) (shifted s p (i * (handle_of s p).entry))
+pub shift-done : (d s : List ℕ) (t h p i : ℕ) → Goes d s (writes s t) h p i → shift_call d s t h i ≡ after (Ok 0) (shifted s p (i * (handle_of s p).entry))
 shift-done d s t h p i g =
     shift-goes d s t h i g.sound g.writer p g.found
     ∙ shift-served s p i (seen_by s 16 p) refl (handle_of s p) refl g.listed g.within
 
-pub cut-done : (d s : List ℕ) (t h p i : ℕ) → Goes d s (cuts s t) h p i → cut_call d s t h i ≡ after (Done 0) (cut_to s p (i * (handle_of s p).entry))
+pub cut-done : (d s : List ℕ) (t h p i : ℕ) → Goes d s (cuts s t) h p i → cut_call d s t h i ≡ after (Ok 0) (cut_to s p (i * (handle_of s p).entry))
 cut-done d s t h p i g =
     cut-goes d s t h i g.sound g.writer p g.found
     ∙ cut-served s p i (seen_by s 16 p) refl (handle_of s p) refl g.listed g.within
@@ -133,8 +130,8 @@ left-within s p n =
     let fewer : left s p n * e ≤ len / e * e = mul-le-mul_right e (omega arith) in
     →upTo e (left s p n) len (omega (arith, div-mul-le_self len e))
 
-pub drop-done : (d s : List ℕ) (t h p n : ℕ) → usable d s ≡ true → cuts s t ≡ true → find_handle s h ≡ At p → (seen_by s 16 p).listed ≡ true
-    → drop_call d s t h n ≡ after (Done 0) (cut_to s p (left s p n * (handle_of s p).entry))
+pub drop-done : (d s : List ℕ) (t h p n : ℕ) → usable d s ≡ true → cuts s t ≡ true → find_handle s h ≡ Some p → (seen_by s 16 p).listed ≡ true
+    → drop_call d s t h n ≡ after (Ok 0) (cut_to s p (left s p n * (handle_of s p).entry))
 drop-done d s t h p n ok w found listed =
     drop-goes d s t h n ok w p found
     ∙ drop-some s p n (seen_by s 16 p) refl (handle_of s p) refl

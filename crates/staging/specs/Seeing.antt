@@ -1,9 +1,6 @@
 -- A tape as a transaction sees it: its view, and for the writer what it has staged. Assumes nothing.
-use Rattle.std.specs.Prelude.{Bool, true, false, cond, ◌&&◌, List, ℕ, ◌/◌, eqb}
-use Rattle.octets.specs.declared.Found.{Found}
-use Rattle.octets.specs.declared.Found.TheVariants.{At, Nothing}
-use Rattle.answers.specs.declared.Answer.{Answer}
-use Rattle.answers.specs.declared.Answer.TheVariants.{Done, Refused}
+use Rattle.std.specs.Prelude.{Bool, true, false, cond, ◌&&◌, List, ℕ, ◌/◌, eqb, Option, Some, None, Ok, Err}
+use Rattle.answers.specs.Answers.{Answer}
 use Rattle.answers.specs.declared.Refusal.TheVariants.{Unusable, Unknown, Absent}
 use Rattle.layout.specs.Disk.{directories}
 use Rattle.layout.specs.Names.{name, find_name}
@@ -16,7 +13,7 @@ use Rattle.session.specs.declared.transactions.Kind.TheVariants.{Closed, Reader,
 use Rattle.beginning.specs.Transactions.{usable}
 
 -- the directory of tape p's name
-abbrev pub directory_of : List ℕ → List ℕ → ℕ → Found
+abbrev pub directory_of : List ℕ → List ℕ → ℕ → Option ℕ
 directory_of d s p = find_name d directories (name s names_at p)
 
 -- transaction place t's view of tape p; the writer's place is 16
@@ -54,19 +51,19 @@ abbrev pub in_entries : List ℕ → ℕ → ℕ → ℕ
 in_entries s p bytes = bytes / (handle_of s p).entry
 
 unfoldable pub len_on : List ℕ → ℕ → ℕ → Answer
-len_on s t p = cond (seen_by s t p).listed (Done (in_entries s p (seen_by s t p).len)) (Refused Absent)
+len_on s t p = cond (seen_by s t p).listed (Ok (in_entries s p (seen_by s t p).len)) (Err Absent)
 
 unfoldable pub start_on : List ℕ → ℕ → ℕ → Answer
-start_on s t p = cond (seen_by s t p).listed (Done (in_entries s p (seen_by s t p).start)) (Refused Absent)
+start_on s t p = cond (seen_by s t p).listed (Ok (in_entries s p (seen_by s t p).start)) (Err Absent)
 
 -- 2 for a transaction or a handle that there is not
-abbrev pub on_both : (ℕ → ℕ → Answer) → Found → Found → Answer
-on_both call (At t) (At p) = call t p
-on_both call (At t) Nothing = Refused Unknown
-on_both call Nothing q = Refused Unknown
+abbrev pub on_both : (ℕ → ℕ → Answer) → Option ℕ → (Option ℕ) → Answer
+on_both call (Some t) (Some p) = call t p
+on_both call (Some t) None = Err Unknown
+on_both call None q = Err Unknown
 
 unfoldable pub len_call : List ℕ → List ℕ → ℕ → ℕ → Answer
-len_call d s t h = cond (usable d s) (on_both (len_on s) (find_transaction s t) (find_handle s h)) (Refused Unusable)
+len_call d s t h = cond (usable d s) (on_both (len_on s) (find_transaction s t) (find_handle s h)) (Err Unusable)
 
 unfoldable pub start_call : List ℕ → List ℕ → ℕ → ℕ → Answer
-start_call d s t h = cond (usable d s) (on_both (start_on s) (find_transaction s t) (find_handle s h)) (Refused Unusable)
+start_call d s t h = cond (usable d s) (on_both (start_on s) (find_transaction s t) (find_handle s h)) (Err Unusable)

@@ -1,13 +1,11 @@
 -- The ways out of each function, in the code's order: a law for each. Assumes nothing.
-use Rattle.std.specs.Prelude.{◌≡◌, refl, ◌≢◌, true, false, not, List, ℕ, ◌*◌, ◌-◌, ◌/◌, ◌<◌, eqb}
+use Rattle.std.specs.Prelude.{◌≡◌, refl, ◌≢◌, true, false, not, List, ℕ, ◌*◌, ◌-◌, ◌/◌, ◌<◌, eqb, Some, None, Ok, Err}
 use Rattle.std.proofs.Common.{sym, ap, ◌∙◌, true≢false}
 use Rattle.std.proofs.Math.Bool.{and-false}
 use native.Mathlib.Omega.{arith}
 use borrow.Author.Tests.{eq-eqb, ne_eqb, eqb-true}
 use Rattle.octets.specs.Cases.{and_l, and_r}
 use Rattle.octets.specs.First.{first-hits}
-use Rattle.octets.specs.declared.Found.TheVariants.{At, Nothing}
-use Rattle.answers.specs.declared.Answer.TheVariants.{Done, Refused}
 use Rattle.answers.specs.declared.Refusal.TheVariants.{Unusable, Unknown, Absent, StartPastLength, LongerCut}
 use Rattle.components.specs.Bounds.{up_to, shifted_start}
 use Rattle.layout.specs.Session.{handle_number, Begun}
@@ -29,7 +27,7 @@ pub record Held (s : List ℕ) (p : ℕ) : Type 0 where
   pub low : p < 8
   pub held : handle_number s p ≢ 0
 
-pub handle-found : (s : List ℕ) (h p : ℕ) → find_handle s h ≡ At p → Held s p
+pub handle-found : (s : List ℕ) (h p : ℕ) → find_handle s h ≡ Some p → Held s p
 unfolding find_handle
 handle-found s h p e =
     let hit = first-hits (is_handle s h) 8 0 p e in
@@ -37,7 +35,7 @@ handle-found s h p e =
     let some : not (eqb h 0) ≡ true = and_l (not (eqb h 0)) _ hit.holds in
     record { low = omega (arith, hit.high); held = λ z. true≢false (sym some ∙ ap not (eq-eqb h 0 (sym same ∙ z))) }
 
-pub transaction-low : (s : List ℕ) (n t : ℕ) → find_transaction s n ≡ At t → t < 17
+pub transaction-low : (s : List ℕ) (n t : ℕ) → find_transaction s n ≡ Some t → t < 17
 unfolding find_transaction
 transaction-low s n t e = omega (arith, (first-hits (is_open_as s n) 17 0 t e).high)
 
@@ -103,19 +101,19 @@ cuts-alone s n c = writes-not s n (transaction_of s 16) refl (by (transaction_of
 -- ---- on a tape, by what the code sees and the handle's row
 
 module _ (s : List ℕ) (t p : ℕ) (v : View) (seen : v ≡ seen_by s t p) where
-  pub len-absent : v.listed ≡ false → len_on s t p ≡ Refused Absent
+  pub len-absent : v.listed ≡ false → len_on s t p ≡ Err Absent
   unfolding len_on
   len-absent h = rw (← seen, h)
 
-  pub len-listed : v.listed ≡ true → len_on s t p ≡ Done (in_entries s p v.len)
+  pub len-listed : v.listed ≡ true → len_on s t p ≡ Ok (in_entries s p v.len)
   unfolding len_on
   len-listed h = rw (← seen, h)
 
-  pub start-absent : v.listed ≡ false → start_on s t p ≡ Refused Absent
+  pub start-absent : v.listed ≡ false → start_on s t p ≡ Err Absent
   unfolding start_on
   start-absent h = rw (← seen, h)
 
-  pub start-listed : v.listed ≡ true → start_on s t p ≡ Done (in_entries s p v.start)
+  pub start-listed : v.listed ≡ true → start_on s t p ≡ Ok (in_entries s p v.start)
   unfolding start_on
   start-listed h = rw (← seen, h)
 
@@ -145,7 +143,7 @@ module _ (s : List ℕ) (p i : ℕ) (v : View) (seen : v ≡ seen_by s 16 p) whe
       unfolding shift_on
       shift_past h = rw (← seen, ← row, listed, h)
 
-      pub shift-served : up_to r.entry i v.len ≡ true → shift_on s p i ≡ after (Done 0) (shifted s p (i * r.entry))
+      pub shift-served : up_to r.entry i v.len ≡ true → shift_on s p i ≡ after (Ok 0) (shifted s p (i * r.entry))
       unfolding shift_on
       shift-served h = rw (← seen, ← row, listed, h)
 
@@ -153,7 +151,7 @@ module _ (s : List ℕ) (p i : ℕ) (v : View) (seen : v ≡ seen_by s 16 p) whe
       unfolding cut_on
       cut-longer h = rw (← seen, ← row, listed, h)
 
-      pub cut-served : up_to r.entry i v.len ≡ true → cut_on s p i ≡ after (Done 0) (cut_to s p (i * r.entry))
+      pub cut-served : up_to r.entry i v.len ≡ true → cut_on s p i ≡ after (Ok 0) (cut_to s p (i * r.entry))
       unfolding cut_on
       cut-served h = rw (← seen, ← row, listed, h)
 
@@ -171,37 +169,37 @@ module _ (s : List ℕ) (p : ℕ) (r : Staged) (row : r ≡ touched_as s p) wher
 -- ---- the calls
 
 module _ (d s : List ℕ) (t h : ℕ) where
-  pub len-unusable : usable d s ≡ false → len_call d s t h ≡ Refused Unusable
+  pub len-unusable : usable d s ≡ false → len_call d s t h ≡ Err Unusable
   unfolding len_call
   len-unusable e = rw e
 
-  pub start-unusable : usable d s ≡ false → start_call d s t h ≡ Refused Unusable
+  pub start-unusable : usable d s ≡ false → start_call d s t h ≡ Err Unusable
   unfolding start_call
   start-unusable e = rw e
 
   module _ (ok : usable d s ≡ true) where
-    pub len-no-transaction : find_transaction s t ≡ Nothing → len_call d s t h ≡ Refused Unknown
+    pub len-no-transaction : find_transaction s t ≡ None → len_call d s t h ≡ Err Unknown
     unfolding len_call
     len-no-transaction e = rw (ok, e)
 
-    pub start-no-transaction : find_transaction s t ≡ Nothing → start_call d s t h ≡ Refused Unknown
+    pub start-no-transaction : find_transaction s t ≡ None → start_call d s t h ≡ Err Unknown
     unfolding start_call
     start-no-transaction e = rw (ok, e)
 
-    module _ (x : ℕ) (there : find_transaction s t ≡ At x) where
-      pub len-no-handle : find_handle s h ≡ Nothing → len_call d s t h ≡ Refused Unknown
+    module _ (x : ℕ) (there : find_transaction s t ≡ Some x) where
+      pub len-no-handle : find_handle s h ≡ None → len_call d s t h ≡ Err Unknown
       unfolding len_call
       len-no-handle e = rw (ok, there, e)
 
-      pub len-goes : (p : ℕ) → find_handle s h ≡ At p → len_call d s t h ≡ len_on s x p
+      pub len-goes : (p : ℕ) → find_handle s h ≡ Some p → len_call d s t h ≡ len_on s x p
       unfolding len_call
       len-goes p e = rw (ok, there, e)
 
-      pub start-no-handle : find_handle s h ≡ Nothing → start_call d s t h ≡ Refused Unknown
+      pub start-no-handle : find_handle s h ≡ None → start_call d s t h ≡ Err Unknown
       unfolding start_call
       start-no-handle e = rw (ok, there, e)
 
-      pub start-goes : (p : ℕ) → find_handle s h ≡ At p → start_call d s t h ≡ start_on s x p
+      pub start-goes : (p : ℕ) → find_handle s h ≡ Some p → start_call d s t h ≡ start_on s x p
       unfolding start_call
       start-goes p e = rw (ok, there, e)
 
@@ -232,27 +230,27 @@ module _ (d s : List ℕ) (t h i : ℕ) where
     drop-no-truncate e = rw (ok, e)
 
     module _ (there : writes s t ≡ true) where
-      pub shift-no-handle : find_handle s h ≡ Nothing → shift_call d s t h i ≡ refused Unknown s
+      pub shift-no-handle : find_handle s h ≡ None → shift_call d s t h i ≡ refused Unknown s
       unfolding shift_call
       shift-no-handle e = rw (ok, there, e)
 
-      pub shift-goes : (p : ℕ) → find_handle s h ≡ At p → shift_call d s t h i ≡ shift_on s p i
+      pub shift-goes : (p : ℕ) → find_handle s h ≡ Some p → shift_call d s t h i ≡ shift_on s p i
       unfolding shift_call
       shift-goes p e = rw (ok, there, e)
 
     module _ (there : cuts s t ≡ true) where
-      pub cut-no-handle : find_handle s h ≡ Nothing → cut_call d s t h i ≡ refused Unknown s
+      pub cut-no-handle : find_handle s h ≡ None → cut_call d s t h i ≡ refused Unknown s
       unfolding cut_call
       cut-no-handle e = rw (ok, there, e)
 
-      pub cut-goes : (p : ℕ) → find_handle s h ≡ At p → cut_call d s t h i ≡ cut_on s p i
+      pub cut-goes : (p : ℕ) → find_handle s h ≡ Some p → cut_call d s t h i ≡ cut_on s p i
       unfolding cut_call
       cut-goes p e = rw (ok, there, e)
 
-      pub drop-no-handle : find_handle s h ≡ Nothing → drop_call d s t h i ≡ refused Unknown s
+      pub drop-no-handle : find_handle s h ≡ None → drop_call d s t h i ≡ refused Unknown s
       unfolding drop_call
       drop-no-handle e = rw (ok, there, e)
 
-      pub drop-goes : (p : ℕ) → find_handle s h ≡ At p → drop_call d s t h i ≡ drop_on s p i
+      pub drop-goes : (p : ℕ) → find_handle s h ≡ Some p → drop_call d s t h i ≡ drop_on s p i
       unfolding drop_call
       drop-goes p e = rw (ok, there, e)

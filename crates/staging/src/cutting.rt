@@ -5,9 +5,8 @@ ghost use Rattle.beginning.specs.Transactions.{after};
 ghost use Rattle.staging.specs.Cutting.{cut_to, cut_on, drop_on, cut_call, drop_call};
 
 use crate::seeing::{is_cutting, seen_by, touched_as};
-use answers::{Answer, Refusal};
+use answers::Refusal;
 use layout::Session;
-use octets::Found;
 use session::Staged;
 
 // A length, staged; nothing is left unwritten.
@@ -29,7 +28,7 @@ pub fn put_len(session: &mut [u8], tape: usize, len: u64)
     );
 }
 
-fn cut_on(session: &mut [u8], tape: usize, index: u64) -> Answer
+fn cut_on(session: &mut [u8], tape: usize, index: u64) -> Result<u64, Refusal>
     requires { Begun session.old × ((tape < 8) × (handle_number session.old tape ≢ 0)) }
     ensures { cut_on session.old tape index ≡ after result session.new }
 {
@@ -39,15 +38,15 @@ fn cut_on(session: &mut [u8], tape: usize, index: u64) -> Answer
         let entry = handle.entry;
         if components::up_to(entry, index, seen.len) {
             put_len(session, tape, index * entry);
-            return Answer::Done(0);
+            return Ok(0);
         }
-        return Answer::Refused(Refusal::LongerCut);
+        return Err(Refusal::LongerCut);
     }
-    Answer::Refused(Refusal::Absent)
+    Err(Refusal::Absent)
 }
 
 // So many entries dropped from the end, at most all of them.
-fn drop_on(session: &mut [u8], tape: usize, count: u64) -> Answer
+fn drop_on(session: &mut [u8], tape: usize, count: u64) -> Result<u64, Refusal>
     requires { Begun session.old × ((tape < 8) × (handle_number session.old tape ≢ 0)) }
     ensures { drop_on session.old tape count ≡ after result session.new }
 {
@@ -68,19 +67,19 @@ pub fn truncate_tape(
     transaction: u64,
     handle: u64,
     len: u64,
-) -> Answer
+) -> Result<u64, Refusal>
     ensures { cut_call disk.now session.old transaction handle len ≡ after result session.new }
 {
     if beginning::is_usable(disk, session) {
         if is_cutting(session, transaction) {
-            let Found::At(tape) = session::find_handle(session, handle) else {
-                return Answer::Refused(Refusal::Unknown);
+            let Some(tape) = session::find_handle(session, handle) else {
+                return Err(Refusal::Unknown);
             };
             return cut_on(session, tape, len);
         }
-        return Answer::Refused(Refusal::Unknown);
+        return Err(Refusal::Unknown);
     }
-    Answer::Refused(Refusal::Unusable)
+    Err(Refusal::Unusable)
 }
 
 // Drops entries from a tape's end; it stops at 0. Refused: 1, 2, 11.
@@ -90,17 +89,17 @@ pub fn drop_entries(
     transaction: u64,
     handle: u64,
     count: u64,
-) -> Answer
+) -> Result<u64, Refusal>
     ensures { drop_call disk.now session.old transaction handle count ≡ after result session.new }
 {
     if beginning::is_usable(disk, session) {
         if is_cutting(session, transaction) {
-            let Found::At(tape) = session::find_handle(session, handle) else {
-                return Answer::Refused(Refusal::Unknown);
+            let Some(tape) = session::find_handle(session, handle) else {
+                return Err(Refusal::Unknown);
             };
             return drop_on(session, tape, count);
         }
-        return Answer::Refused(Refusal::Unknown);
+        return Err(Refusal::Unknown);
     }
-    Answer::Refused(Refusal::Unusable)
+    Err(Refusal::Unusable)
 }

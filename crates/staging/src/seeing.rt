@@ -3,9 +3,8 @@ ghost use Rattle.std.specs.Prelude.{◌≡◌, ◌≢◌, ◌≤◌, ◌<◌, le
 ghost use Rattle.layout.specs.Session.{session_bytes, Begun, handle_number};
 ghost use Rattle.staging.specs.Seeing.{is_append, is_truncate, writes, cuts, seen_by, touched_as, in_entries, len_on, start_on, len_call, start_call};
 
-use answers::{Answer, Refusal};
+use answers::Refusal;
 use layout::Session;
-use octets::Found;
 use session::{Kind, Staged, View};
 
 // What a transaction place sees of a tape: the writer sees what it has staged.
@@ -103,56 +102,56 @@ fn in_entries(session: &[u8], tape: usize, bytes: u64) -> u64
     bytes / entry
 }
 
-fn len_on(session: &[u8], place: usize, tape: usize) -> Answer
+fn len_on(session: &[u8], place: usize, tape: usize) -> Result<u64, Refusal>
     requires { (Begun session.now × (place < 17)) × ((tape < 8) × (handle_number session.now tape ≢ 0)) }
     ensures { result ≡ len_on session.now place tape }
 {
     let seen = seen_by(session, place, tape);
     if seen.listed {
-        return Answer::Done(in_entries(session, tape, seen.len));
+        return Ok(in_entries(session, tape, seen.len));
     }
-    Answer::Refused(Refusal::Absent)
+    Err(Refusal::Absent)
 }
 
-fn start_on(session: &[u8], place: usize, tape: usize) -> Answer
+fn start_on(session: &[u8], place: usize, tape: usize) -> Result<u64, Refusal>
     requires { (Begun session.now × (place < 17)) × ((tape < 8) × (handle_number session.now tape ≢ 0)) }
     ensures { result ≡ start_on session.now place tape }
 {
     let seen = seen_by(session, place, tape);
     if seen.listed {
-        return Answer::Done(in_entries(session, tape, seen.start));
+        return Ok(in_entries(session, tape, seen.start));
     }
-    Answer::Refused(Refusal::Absent)
+    Err(Refusal::Absent)
 }
 
 // A tape's length, in entries. Refused: 1, 2, 11.
-pub fn tape_len(disk: &[u8], session: &[u8], transaction: u64, handle: u64) -> Answer
+pub fn tape_len(disk: &[u8], session: &[u8], transaction: u64, handle: u64) -> Result<u64, Refusal>
     ensures { result ≡ len_call disk.now session.now transaction handle }
 {
     if beginning::is_usable(disk, session) {
-        let Found::At(place) = session::find_transaction(session, transaction) else {
-            return Answer::Refused(Refusal::Unknown);
+        let Some(place) = session::find_transaction(session, transaction) else {
+            return Err(Refusal::Unknown);
         };
-        let Found::At(tape) = session::find_handle(session, handle) else {
-            return Answer::Refused(Refusal::Unknown);
+        let Some(tape) = session::find_handle(session, handle) else {
+            return Err(Refusal::Unknown);
         };
         return len_on(session, place, tape);
     }
-    Answer::Refused(Refusal::Unusable)
+    Err(Refusal::Unusable)
 }
 
 // A tape's start, in entries. Refused: 1, 2, 11.
-pub fn tape_start(disk: &[u8], session: &[u8], transaction: u64, handle: u64) -> Answer
+pub fn tape_start(disk: &[u8], session: &[u8], transaction: u64, handle: u64) -> Result<u64, Refusal>
     ensures { result ≡ start_call disk.now session.now transaction handle }
 {
     if beginning::is_usable(disk, session) {
-        let Found::At(place) = session::find_transaction(session, transaction) else {
-            return Answer::Refused(Refusal::Unknown);
+        let Some(place) = session::find_transaction(session, transaction) else {
+            return Err(Refusal::Unknown);
         };
-        let Found::At(tape) = session::find_handle(session, handle) else {
-            return Answer::Refused(Refusal::Unknown);
+        let Some(tape) = session::find_handle(session, handle) else {
+            return Err(Refusal::Unknown);
         };
         return start_on(session, place, tape);
     }
-    Answer::Refused(Refusal::Unusable)
+    Err(Refusal::Unusable)
 }

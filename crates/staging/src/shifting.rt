@@ -5,9 +5,8 @@ ghost use Rattle.beginning.specs.Transactions.{after};
 ghost use Rattle.staging.specs.Shifting.{shifted, shift_on, shift_call};
 
 use crate::seeing::{is_writing, seen_by, touched_as};
-use answers::{Answer, Refusal};
+use answers::Refusal;
 use layout::Session;
-use octets::Found;
 use session::Staged;
 
 // The larger of the old start and the new one, staged.
@@ -16,7 +15,7 @@ fn put_start(session: &mut [u8], tape: usize, start: u64)
     ensures { session.new ≡ shifted session.old tape start }
 {
     let row = touched_as(session, tape);
-    let larger = octets::larger(row.start as usize, start as usize) as u64;
+    let larger = row.start.max(start);
     session::put_staged(
         session,
         tape,
@@ -30,7 +29,7 @@ fn put_start(session: &mut [u8], tape: usize, start: u64)
     );
 }
 
-fn shift_on(session: &mut [u8], tape: usize, index: u64) -> Answer
+fn shift_on(session: &mut [u8], tape: usize, index: u64) -> Result<u64, Refusal>
     requires { Begun session.old × ((tape < 8) × (handle_number session.old tape ≢ 0)) }
     ensures { shift_on session.old tape index ≡ after result session.new }
 {
@@ -40,11 +39,11 @@ fn shift_on(session: &mut [u8], tape: usize, index: u64) -> Answer
         let entry = handle.entry;
         if components::up_to(entry, index, seen.len) {
             put_start(session, tape, index * entry);
-            return Answer::Done(0);
+            return Ok(0);
         }
-        return Answer::Refused(Refusal::StartPastLength);
+        return Err(Refusal::StartPastLength);
     }
-    Answer::Refused(Refusal::Absent)
+    Err(Refusal::Absent)
 }
 
 // Moves a tape's start up to an index; a start never moves down. Refused: 1, 2, 11, 13.
@@ -54,17 +53,17 @@ pub fn shift_start(
     transaction: u64,
     handle: u64,
     index: u64,
-) -> Answer
+) -> Result<u64, Refusal>
     ensures { shift_call disk.now session.old transaction handle index ≡ after result session.new }
 {
     if beginning::is_usable(disk, session) {
         if is_writing(session, transaction) {
-            let Found::At(tape) = session::find_handle(session, handle) else {
-                return Answer::Refused(Refusal::Unknown);
+            let Some(tape) = session::find_handle(session, handle) else {
+                return Err(Refusal::Unknown);
             };
             return shift_on(session, tape, index);
         }
-        return Answer::Refused(Refusal::Unknown);
+        return Err(Refusal::Unknown);
     }
-    Answer::Refused(Refusal::Unusable)
+    Err(Refusal::Unusable)
 }

@@ -3,8 +3,8 @@
 use Rattle.std.specs.Prelude.{List, ℕ}
 use Rattle.answers.specs.Answers.{code_of, value_of, entry_code_of, entry_value_of}
 use Rattle.answers.specs.Outcome.{Outcome, Reading, Entering, Popping}
-use Rattle.answers.specs.declared.Answer.{Answer}
-use Rattle.answers.specs.declared.OneEntry.{OneEntry}
+use Rattle.answers.specs.Answers.{Answer}
+use Rattle.answers.specs.Answers.{OneEntry}
 use Rattle.beginning.specs.Transactions.{After}
 use Rattle.tapes.specs.declared.numbers.Reply.{Reply}
 

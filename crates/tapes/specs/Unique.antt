@@ -2,7 +2,7 @@
 -- says, so three theorems, one for each shape of contract, speak of all of them. Assumes nothing.
 use Rattle.std.specs.Prelude.{◌≡◌, List, ℕ}
 use Rattle.std.proofs.Common.{sym, ap, ◌∙◌}
-use Rattle.answers.specs.declared.Answer.{Answer}
+use Rattle.answers.specs.Answers.{Answer}
 use Rattle.tapes.specs.declared.numbers.Reply.{Reply}
 use Rattle.tapes.specs.Numbers.{numbers, Pair, pair, Single, single}
 

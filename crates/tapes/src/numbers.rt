@@ -2,7 +2,7 @@
 ghost use Rattle.std.specs.Prelude.{◌≡◌};
 ghost use Rattle.tapes.specs.Numbers.{numbers, entry_numbers};
 
-use answers::{Answer, OneEntry};
+use answers::Refusal;
 
 // 0 and the value, or the refusal's number and 0; an append that waits has the number of readers.
 #[derive(Clone, Copy)]
@@ -12,7 +12,7 @@ pub struct Reply {
     pub value: u64,
 }
 
-pub fn numbers_of(answer: Answer) -> Reply
+pub fn numbers_of(answer: Result<u64, Refusal>) -> Reply
     ensures { result ≡ numbers answer }
 {
     let code = answers::code(answer);
@@ -24,7 +24,7 @@ pub fn numbers_of(answer: Answer) -> Reply
 }
 
 // Of one entry: its index, and 2^64-1 where there is none.
-pub fn entry_numbers_of(answer: OneEntry) -> Reply
+pub fn entry_numbers_of(answer: Result<Option<u64>, Refusal>) -> Reply
     ensures { result ≡ entry_numbers answer }
 {
     let code = answers::entry_code(answer);

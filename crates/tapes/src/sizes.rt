@@ -10,7 +10,7 @@ use layout::Session;
 pub extern "C" fn tapes_disk_bytes(slots: u64) -> u64
     ensures { result ≡ data_at (min slots 64) }
 {
-    let most = octets::smaller(slots as usize, 64);
+    let most = (slots as usize).min(64);
     layout::disk_bytes(most) as u64
 }
 

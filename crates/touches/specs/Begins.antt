@@ -1,8 +1,7 @@
 -- What the calls that begin something touch: `format` a disk, `store` a session, `append`, `reader` and `truncate` a transaction. Assumes nothing.
-use Rattle.std.specs.Prelude.{◌≡◌, ◌≢◌, true, List, [], ◌∷◌, ℕ, ◌+◌, ◌≤◌, ◌<◌, length}
+use Rattle.std.specs.Prelude.{◌≡◌, ◌≢◌, true, List, [], ◌∷◌, ℕ, ◌+◌, ◌≤◌, ◌<◌, length, Some}
 use Rattle.std.proofs.Common.{arith}
 use Rattle.octets.specs.Only.{OnlyIn, only_none, only-put_num, only_then, only_wider}
-use Rattle.octets.specs.declared.Found.TheVariants.{At}
 use Rattle.metadata.specs.Tapes.{Tape, good_after, good_list}
 use Rattle.metadata.specs.Rules.{fits-true, good-first, good_others, good-few, good-tapes}
 use Rattle.metadata.specs.declared.choice.Side.{Side}
@@ -97,7 +96,7 @@ module _ (d s : List ℕ) where
   pub truncate-leaves : BeginLeaves 16 s (truncate_call d s).session
   truncate-leaves = begin-leaves 16 s _ (omega arith) (truncate-touches d s)
 
-  pub reader-leaves : (t : ℕ) → free_reader s ≡ At t → BeginLeaves t s (reader_call d s).session
+  pub reader-leaves : (t : ℕ) → free_reader s ≡ Some t → BeginLeaves t s (reader_call d s).session
   reader-leaves t e =
       let low = free-low s t e in
       begin-leaves t s _ (omega arith) (rw e at (reader-touches d s))

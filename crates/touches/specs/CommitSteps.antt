@@ -1,7 +1,7 @@
 -- What the steps of a commit touch, one by one and together: of an append data, list, record and removal, of a truncate list, record and the rings that
 -- are cut. Assumes nothing.
 use Prim.{tt}
-use Rattle.std.specs.Prelude.{◌≡◌, refl, List, [], ◌∷◌, ℕ, ◌≤◌, ◌<◌, length}
+use Rattle.std.specs.Prelude.{◌≡◌, refl, List, [], ◌∷◌, ℕ, ◌≤◌, ◌<◌, length, Option, Some, None}
 use Rattle.std.proofs.Math.Path.{ap}
 use Rattle.std.proofs.Common.{◌∙◌, arith}
 use Rattle.std.proofs.Math.Bool.{true, false}
@@ -9,8 +9,6 @@ use Rattle.octets.specs.Bytes.{put}
 use Rattle.octets.specs.Cases.{picked}
 use Rattle.octets.specs.Only.{OnlyIn, only_none, only_then, only_wider}
 use Rattle.octets.specs.Sweep.{sweep-keeps}
-use Rattle.octets.specs.declared.Found.{Found}
-use Rattle.octets.specs.declared.Found.TheVariants.{At, Nothing}
 use Rattle.components.specs.Pieces.{file_of}
 use Rattle.metadata.specs.Struct.{storable}
 use Rattle.metadata.specs.declared.list.TapeList.{TapeList}
@@ -76,14 +74,14 @@ unfolding flush_tape
 flushed-tape a r begun p low =
     picked (Flushed a) (is_touched a.session p) _ _ (λ e. by e (directory_of a.disk a.session p)) (λ e. flushed-none a r)
   where
-    by : is_touched a.session p ≡ true → (f : Found) → Flushed a (flush_in a p f)
-    by e (At place) =
+    by : is_touched a.session p ≡ true → (f : Option ℕ) → Flushed a (flush_in a p f)
+    by e (Some place) =
         let t = begun.tapes p low (touched-held a.session p e) in
         record {
           written = written-flushed a place p (staged_of a.session p) r t.file-some t.file-small;
           only = only-flushed a place p (staged_of a.session p) r.few;
         }
-    by e Nothing = flushed-none a r
+    by e None = flushed-none a r
 
 flushed-all : (a : Areas) → Lengths a.disk → Begun a.session → Flushed a (flush_all a)
 flushed-all a r begun =
@@ -141,9 +139,9 @@ unfolding ripen_tape
 ripened-tape a began oldest p few =
     picked (Ripened a) (is_touched a.session p) _ _ (λ e. by (directory_of a.disk a.session p)) (λ e. ripened-none a)
   where
-    by : (f : Found) → Ripened a (ripen_in a began oldest p f)
-    by (At place) = ripened-at a began oldest p place few
-    by Nothing = ripened-none a
+    by : (f : Option ℕ) → Ripened a (ripen_in a began oldest p f)
+    by (Some place) = ripened-at a began oldest p place few
+    by None = ripened-none a
 
 ripened-all : (a : Areas) (began oldest : ℕ) → D.slots a.disk ≤ 64 → Ripened a (ripen_all began oldest a)
 ripened-all a began oldest few =
@@ -229,9 +227,9 @@ touches-cut_tape d s few p low =
     (λ e. touches-then truncate_parts s u _ ring (by u (file_size_of s p) (staged_of s p).len (directory_of d s p)))
     (λ e. touches_none truncate_parts s)
   where
-    by : (u : List ℕ) (fs len : ℕ) (f : Found) → Touches truncate_parts u (clear_in d u fs len f)
-    by u fs len (At place) = touches-only truncate_parts _ _ u _ (only-retracked d u place (ClearFrom (file_of fs len)) few) (λ i o l. o.1.1.1.1.0 l)
-    by u fs len Nothing = touches_none truncate_parts u
+    by : (u : List ℕ) (fs len : ℕ) (f : Option ℕ) → Touches truncate_parts u (clear_in d u fs len f)
+    by u fs len (Some place) = touches-only truncate_parts _ _ u _ (only-retracked d u place (ClearFrom (file_of fs len)) few) (λ i o l. o.1.1.1.1.0 l)
+    by u fs len None = touches_none truncate_parts u
 
 touches-cut_all : (d s : List ℕ) → D.slots d ≤ 64 → Touches truncate_parts s (cut_all d s)
 touches-cut_all d s few =

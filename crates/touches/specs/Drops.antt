@@ -1,14 +1,12 @@
 -- What `drop_transaction` touches; the disk is not even lent to be written. Of a reader its own place alone; of a truncate that and the staged records; of
 -- an append also the tapes' rows, the names of tapes that it created, and tracking. Assumes nothing.
 use Prim.{tt}
-use Rattle.std.specs.Prelude.{◌≡◌, ◌≢◌, true, false, cond, ℕ, ◌+◌, ◌*◌, ◌≤◌, ◌<◌, eqb}
+use Rattle.std.specs.Prelude.{◌≡◌, ◌≢◌, true, false, cond, ℕ, ◌+◌, ◌*◌, ◌≤◌, ◌<◌, eqb, Option, Some, None}
 use Rattle.std.proofs.Common.{ap, ◌∙◌, arith, ne_eqb, eqb-true}
 use mathlib.Core.List.{List, [], ◌∷◌}
 use Rattle.octets.specs.Cases.{picked, decide}
 use Rattle.octets.specs.Only.{OnlyIn}
 use Rattle.octets.specs.Sweep.{sweep, sweep-keeps}
-use Rattle.octets.specs.declared.Found.{Found}
-use Rattle.octets.specs.declared.Found.TheVariants.{At, Nothing}
 use Rattle.layout.specs.Disk.{slots}
 use Rattle.layout.specs.NamesLaws.{only-put_name}
 use Rattle.layout.specs.Session.{names_at, tape_at}
@@ -62,9 +60,9 @@ module _ (d : List ℕ) (few : slots d ≤ 64) (p : ℕ) (low : p < 8) (s : List
       touches-then take_back_parts s (unstage p s) _ touches-unstage
       (in-tapes _ _ (unstage p s) _ (omega arith) (omega arith) (only-put_ring (unstage p s) p _))
 
-  touches-untrack : (f : Found) → Touches take_back_parts s (untrack_in d s f)
-  touches-untrack (At place) = touches-only take_back_parts _ _ s _ (only-retracked d s place UntrackAll few) (λ i o l. o.1.1.1.0 l)
-  touches-untrack Nothing = touches_none take_back_parts s
+  touches-untrack : (f : Option ℕ) → Touches take_back_parts s (untrack_in d s f)
+  touches-untrack (Some place) = touches-only take_back_parts _ _ s _ (only-retracked d s place UntrackAll few) (λ i o l. o.1.1.1.0 l)
+  touches-untrack None = touches_none take_back_parts s
 
 touches-forgotten : (d : List ℕ) → slots d ≤ 64 → (p : ℕ) → p < 8 → (s : List ℕ) → Touches take_back_parts s (forgotten d p s)
 unfolding forgotten
@@ -120,26 +118,26 @@ module _ (d s : List ℕ) (n : ℕ) where
       (λ ok. by (usable-disk d s ok).head.few (find_transaction s n))
       (λ ok. touches_none (found (drop_parts s) (find_transaction s n)) s)
     where
-      by : slots d ≤ 64 → (f : Found) → Touches (found (drop_parts s) f) s (drop_found d s f).session
-      by few (At t) = touches-drop_at d s t few
-      by few Nothing = touches_none [] s
+      by : slots d ≤ 64 → (f : Option ℕ) → Touches (found (drop_parts s) f) s (drop_found d s f).session
+      by few (Some t) = touches-drop_at d s t few
+      by few None = touches_none [] s
 
   -- a dropped reader: its place alone
-  pub drop-reader-touches : (t : ℕ) → find_transaction s n ≡ At t → t ≢ 16 → Touches (P.transaction_of t ∷ []) s (drop_transaction_call d s n).session
+  pub drop-reader-touches : (t : ℕ) → find_transaction s n ≡ Some t → t ≢ 16 → Touches (P.transaction_of t ∷ []) s (drop_transaction_call d s n).session
   drop-reader-touches t e apart = rw (e, ne_eqb t 16 apart) at drop-transaction-touches
 
   -- a dropped truncate: its place, and what was staged
-  pub drop-truncate-touches : find_transaction s n ≡ At 16 → is_append (transaction_of s 16).kind ≡ false → Touches close_parts s (drop_transaction_call d s n).session
+  pub drop-truncate-touches : find_transaction s n ≡ Some 16 → is_append (transaction_of s 16).kind ≡ false → Touches close_parts s (drop_transaction_call d s n).session
   drop-truncate-touches e kind = rw (e, kind) at drop-transaction-touches
 
 -- ---- what it leaves
 
 -- mark, head, views and caches; and every other transaction's place
-pub record DropLeaves (place : Found) (s u : List ℕ) : Type 0 where
+pub record DropLeaves (place : Option ℕ) (s u : List ℕ) : Type 0 where
   pub mark-stays : Stays mark s u
   pub head-stays : Stays head s u
   pub views-stay : Stays views s u
-  pub transactions-stay : (x : ℕ) → x < 17 → place ≢ At x → Stays (P.transaction_of x) s u
+  pub transactions-stay : (x : ℕ) → x < 17 → place ≢ Some x → Stays (P.transaction_of x) s u
   pub rings-stay : Stays rings s u
 
 -- of whatever kind
@@ -158,15 +156,15 @@ outside-any s t i o =
     (λ (k : is_append (transaction_of s 16).kind ≡ false). rw k (its, ((λ j l m. omega (arith, o.1.1.0 (omega arith))), tt)))))
     (λ (e : eqb t 16 ≡ false). rw e (o.0, tt))
 
-drop-leaves : (place : Found) (s u : List ℕ) → ((t : ℕ) → place ≡ At t → t < 17) → Touches (found (drop_parts s) place) s u → DropLeaves place s u
+drop-leaves : (place : Option ℕ) (s u : List ℕ) → ((t : ℕ) → place ≡ Some t → t < 17) → Touches (found (drop_parts s) place) s u → DropLeaves place s u
 drop-leaves place s u low a =
-    let rest : (q : Part) → ((t : ℕ) → t < 17 → place ≡ At t → (i : ℕ) → Inside i q → Outside i (any_parts t)) → Stays q s u
+    let rest : (q : Part) → ((t : ℕ) → t < 17 → place ≡ Some t → (i : ℕ) → Inside i q → Outside i (any_parts t)) → Stays q s u
     = λ q h. stays-found (drop_parts s) place q s u a (λ t e i k. outside-any s t i (h t (low t e) e i k)) in
     record {
       mark-stays = rest mark (λ t small e i h. search arith);
       head-stays = rest head (λ t small e i h. search arith);
       views-stay = rest views (λ t small e i h. search arith);
-      transactions-stay = λ x l d. rest (P.transaction_of x) (λ t small e i h. let n : t ≢ x = λ z. d (e ∙ ap At z) in search arith);
+      transactions-stay = λ x l d. rest (P.transaction_of x) (λ t small e i h. let n : t ≢ x = λ z. d (e ∙ ap Some z) in search arith);
       rings-stay = rest rings (λ t small e i h. search arith);
     }
 

@@ -1,12 +1,10 @@
 -- Bytes that go to a tape's files, whatever numbers damaged memory gives those files: the session's tracking and the disk's files are touched, no more. The
 -- laws of `cached_tape` say the same of offsets below 2^64; here the file table's lengths alone are asked for. Assumes nothing.
-use Rattle.std.specs.Prelude.{◌≡◌, refl, ◌≢◌, ℕ, zero, suc, ◌+◌, ◌≤◌, ◌<◌, length, take, drop}
+use Rattle.std.specs.Prelude.{◌≡◌, refl, ◌≢◌, ℕ, zero, suc, ◌+◌, ◌≤◌, ◌<◌, length, take, drop, Option, Some, None}
 use Rattle.std.proofs.Common.{◌∙◌, arith, length-take}
 use mathlib.Core.List.{List, [], ◌∷◌, Memᴰ}
 use Rattle.octets.specs.Cases.{equal}
 use Rattle.octets.specs.Only.{OnlyIn, only_none, only_then, only_wider, num_at-only}
-use Rattle.octets.specs.declared.Found.{Found}
-use Rattle.octets.specs.declared.Found.TheVariants.{At, Nothing}
 use Rattle.components.specs.Pieces.{Piece, pieces, file_of}
 use Rattle.components.specs.PiecesLaws.{Inside, pieces-inside}
 use Rattle.components.specs.Slots as Slots
@@ -54,13 +52,13 @@ lengths-make_file : (d : List ℕ) (place n : ℕ) → Lengths d → Lengths (ma
 unfolding make_file
 lengths-make_file d place n r = by (find_in d place n)
   where
-    new : (f : Found) → free_slot d ≡ f → Lengths (make_new d place n f).area
-    new (At i) e = lengths-put_entry d i _ r (free-low d i e) (omega arith)
-    new Nothing e = r
+    new : (f : Option ℕ) → free_slot d ≡ f → Lengths (make_new d place n f).area
+    new (Some i) e = lengths-put_entry d i _ r (free-low d i e) (omega arith)
+    new None e = r
 
-    by : (f : Found) → Lengths (make_unless d place n f).area
-    by (At i) = r
-    by Nothing = new (free_slot d) refl
+    by : (f : Option ℕ) → Lengths (make_unless d place n f).area
+    by (Some i) = r
+    by None = new (free_slot d) refl
 
 lengths-covered : (a : Areas) (place first count : ℕ) → Lengths a.disk → Lengths (covered a place first count).disk
 unfolding covered
@@ -122,9 +120,9 @@ written-piece : (d : List ℕ) (place n at : ℕ) (bs : List ℕ) → Lengths d 
 unfolding write_piece
 written-piece d place n at bs r fit = by (find_in d place n) refl
   where
-    by : (f : Found) → find_in d place n ≡ f → Written d (write_found d at bs f)
-    by (At i) e = written_at d r i at bs (find-low d place n i e) fit
-    by Nothing e = written_none d r
+    by : (f : Option ℕ) → find_in d place n ≡ f → Written d (write_found d at bs f)
+    by (Some i) e = written_at d r i at bs (find-low d place n i e) fit
+    by None e = written_none d r
 
 written-pieces : (place fs : ℕ) → fs ≤ 4096 → (d : List ℕ) (ps : List Piece) (bs : List ℕ) → ((p : Piece) → Memᴰ p ps → Inside fs p) → Lengths d
     → Written d (write_pieces d place ps bs)

@@ -1,13 +1,11 @@
 -- What `open` touches: of the session its own fields, the tape's name, row and cache, and tracking; of the disk the directories, where the tape has none
 -- yet, and the file table. No file's bytes are written. Assumes nothing.
 use Prim.{tt}
-use Rattle.std.specs.Prelude.{◌≡◌, refl, ◌≢◌, true, List, [], ◌∷◌, ℕ, ◌+◌, ◌≤◌, ◌<◌, length}
+use Rattle.std.specs.Prelude.{◌≡◌, refl, ◌≢◌, true, List, [], ◌∷◌, ℕ, ◌+◌, ◌≤◌, ◌<◌, length, Option, Some, None}
 use Rattle.std.proofs.Common.{ap, ◌∙◌, arith}
 use Rattle.octets.specs.Cases.{picked, decide}
 use Rattle.octets.specs.Only.{OnlyIn, only_none, only_then, only_wider}
 use Rattle.octets.specs.Sweep.{sweep-keeps}
-use Rattle.octets.specs.declared.Found.{Found}
-use Rattle.octets.specs.declared.Found.TheVariants.{At, Nothing}
 use Rattle.answers.specs.Outcome.{Outcome}
 use Rattle.layout.specs.Disk as D
 use Rattle.layout.specs.Names.{find_name, put_name}
@@ -61,7 +59,7 @@ touches-rowed s p o bs fit =
     (touches-then (open_parts p) b c _ (touches-row b p _ _ c (omega arith) (omega arith) (only-put_handle b p _))
     (touches-only (open_parts p) _ _ c _ (only-put_head c _) (λ i k l. k.0 l))))
 
-touches-open_now : (d s wanted : List ℕ) (o : Opening) (directory : Found) (p : ℕ) → usable d s ≡ true → Shaped wanted o → Touches (open_parts p) s (open_now d s wanted o directory p).session
+touches-open_now : (d s wanted : List ℕ) (o : Opening) (directory : Option ℕ) (p : ℕ) → usable d s ≡ true → Shaped wanted o → Touches (open_parts p) s (open_now d s wanted o directory p).session
 unfolding open_now open_with
 touches-open_now d s wanted o directory p ok shaped =
     let short = shaped.name-short in
@@ -77,9 +75,9 @@ touches-open_now d s wanted o directory p ok shaped =
 -- ---- of the disk
 
 -- the file table; and, of a tape without a directory, the directories
-abbrev pub readied_parts : List ℕ → Found → List Part
-readied_parts d (At place) = file_table d ∷ []
-readied_parts d Nothing = file_table d ∷ directories ∷ []
+abbrev pub readied_parts : List ℕ → Option ℕ → List Part
+readied_parts d (Some place) = file_table d ∷ []
+readied_parts d None = file_table d ∷ directories ∷ []
 
 only-empty_directory : (d : List ℕ) (place : ℕ) → OnlyIn 1312 (D.entry_at (D.slots d)) d (empty_directory d place)
 unfolding empty_directory
@@ -93,11 +91,11 @@ only-add_directory : (d wanted : List ℕ) → length wanted ≤ 24 → OnlyIn 3
 unfolding add_directory
 only-add_directory d wanted small = by (find_name d D.directories []) refl
   where
-    by : (f : Found) → find_name d D.directories [] ≡ f → OnlyIn 32 288 d (add_at d wanted f).area
-    by (At i) e =
+    by : (f : Option ℕ) → find_name d D.directories [] ≡ f → OnlyIn 32 288 d (add_at d wanted f).area
+    by (Some i) e =
         let low = directory-low d [] i e in
         only_wider _ _ 32 288 d _ (omega arith) (omega arith) (only-put_name d D.directories i wanted small)
-    by Nothing e = only_none 32 288 d
+    by None e = only_none 32 288 d
 
 module _ (d s wanted : List ℕ) (o : Opening) (began : ℕ) (small : length wanted ≤ 24) where
   only-taken : (place : ℕ) → OnlyIn 1312 (D.entry_at (D.slots d)) d (taken_files (areas d s) place o began).disk
@@ -108,20 +106,20 @@ module _ (d s wanted : List ℕ) (o : Opening) (began : ℕ) (small : length wan
   unfolding emptied
   only-emptied place = only-empty_directory d place
 
-  touches-added : (free : Found) → Touches (readied_parts d Nothing) d (added (areas d s) wanted free).disk
-  touches-added (At place) =
+  touches-added : (free : Option ℕ) → Touches (readied_parts d None) d (added (areas d s) wanted free).disk
+  touches-added (Some place) =
       let u = (emptied (areas d s) place).disk in
-      touches-then (readied_parts d Nothing) d u _
-      (touches-only (readied_parts d Nothing) _ _ d u (only-emptied place) (λ i k l. k.0 l))
-      (touches-only (readied_parts d Nothing) _ _ u _ (only-add_directory u wanted small) (λ i k l. k.1.0 l))
-  touches-added Nothing = touches_none (readied_parts d Nothing) d
+      touches-then (readied_parts d None) d u _
+      (touches-only (readied_parts d None) _ _ d u (only-emptied place) (λ i k l. k.0 l))
+      (touches-only (readied_parts d None) _ _ u _ (only-add_directory u wanted small) (λ i k l. k.1.0 l))
+  touches-added None = touches_none (readied_parts d None) d
 
-  touches-readied : (directory : Found) → Touches (readied_parts d directory) d (readied (areas d s) wanted o began directory).disk
-  touches-readied (At place) =
+  touches-readied : (directory : Option ℕ) → Touches (readied_parts d directory) d (readied (areas d s) wanted o began directory).disk
+  touches-readied (Some place) =
       picked (λ (b : Areas). Touches (file_table d ∷ []) d b.disk) o.listed _ _
       (λ e. one-touches _ _ d _ (only-taken place))
       (λ e. one-touches _ _ d _ (only-emptied place))
-  touches-readied Nothing = touches-added (find_name d D.directories [])
+  touches-readied None = touches-added (find_name d D.directories [])
 
 -- ---- the call
 
@@ -143,25 +141,25 @@ module _ (d s : List ℕ) (t : ℕ) (wanted : List ℕ) (entry fs cache start : 
 -- ---- what it leaves
 
 -- mark, views, transactions; and of every other tape its name, its row and its cache
-pub record OpenLeaves (place : Found) (s u : List ℕ) : Type 0 where
+pub record OpenLeaves (place : Option ℕ) (s u : List ℕ) : Type 0 where
   pub mark-stays : Stays mark s u
   pub views-stay : Stays views s u
   pub transactions-stay : Stays transactions s u
-  pub names-stay : (q : ℕ) → q < 8 → place ≢ At q → Stays (name_of q) s u
-  pub tapes-stay : (q : ℕ) → q < 8 → place ≢ At q → Stays (tape_of q) s u
-  pub rings-stay : (q : ℕ) → q < 8 → place ≢ At q → Stays (ring_of q) s u
+  pub names-stay : (q : ℕ) → q < 8 → place ≢ Some q → Stays (name_of q) s u
+  pub tapes-stay : (q : ℕ) → q < 8 → place ≢ Some q → Stays (tape_of q) s u
+  pub rings-stay : (q : ℕ) → q < 8 → place ≢ Some q → Stays (ring_of q) s u
 
-open-leaves : (place : Found) (s u : List ℕ) → ((p : ℕ) → place ≡ At p → p < 8) → Touches (found open_parts place) s u → OpenLeaves place s u
+open-leaves : (place : Option ℕ) (s u : List ℕ) → ((p : ℕ) → place ≡ Some p → p < 8) → Touches (found open_parts place) s u → OpenLeaves place s u
 open-leaves place s u low a =
-    let rest : (q : Part) → ((p : ℕ) → p < 8 → place ≡ At p → (i : ℕ) → Inside i q → Outside i (open_parts p)) → Stays q s u
+    let rest : (q : Part) → ((p : ℕ) → p < 8 → place ≡ Some p → (i : ℕ) → Inside i q → Outside i (open_parts p)) → Stays q s u
     = λ q h. stays-found open_parts place q s u a (λ p e. h p (low p e) e) in
     record {
       mark-stays = rest mark (λ p small e i h. search arith);
       views-stay = rest views (λ p small e i h. search arith);
       transactions-stay = rest transactions (λ p small e i h. search arith);
-      names-stay = λ q l d. rest (name_of q) (λ p small e i h. let n : p ≢ q = λ z. d (e ∙ ap At z) in search arith);
-      tapes-stay = λ q l d. rest (tape_of q) (λ p small e i h. let n : p ≢ q = λ z. d (e ∙ ap At z) in search arith);
-      rings-stay = λ q l d. rest (ring_of q) (λ p small e i h. let n : p ≢ q = λ z. d (e ∙ ap At z) in search arith);
+      names-stay = λ q l d. rest (name_of q) (λ p small e i h. let n : p ≢ q = λ z. d (e ∙ ap Some z) in search arith);
+      tapes-stay = λ q l d. rest (tape_of q) (λ p small e i h. let n : p ≢ q = λ z. d (e ∙ ap Some z) in search arith);
+      rings-stay = λ q l d. rest (ring_of q) (λ p small e i h. let n : p ≢ q = λ z. d (e ∙ ap Some z) in search arith);
     }
 
 -- mark and slot count, left and right with their lengths, and every file's bytes
@@ -170,9 +168,9 @@ pub record OpenLeavesDisk (d e : List ℕ) : Type 0 where
   pub sides-stay : Stays sides d e
   pub slots-stay : Stays (slots_of d) d e
 
-pub clear_of : (d : List ℕ) (f : Found) (i : ℕ) → (1312 ≤ i → D.entry_at (D.slots d) ≤ i) → (32 ≤ i → 288 ≤ i) → Outside i (readied_parts d f)
-clear_of d (At p) i a b = (a, tt)
-clear_of d Nothing i a b = (a, (b, tt))
+pub clear_of : (d : List ℕ) (f : Option ℕ) (i : ℕ) → (1312 ≤ i → D.entry_at (D.slots d) ≤ i) → (32 ≤ i → 288 ≤ i) → Outside i (readied_parts d f)
+clear_of d (Some p) i a b = (a, tt)
+clear_of d None i a b = (a, (b, tt))
 
 module _ (d s : List ℕ) (t : ℕ) (wanted : List ℕ) (entry fs cache start : ℕ) where
   pub open-leaves-session : OpenLeaves (place_for s (place_of s wanted)) s (open_call d s t wanted entry fs cache start).session

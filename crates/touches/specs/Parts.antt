@@ -1,11 +1,9 @@
 -- The parts of the two areas (`docs/LAYOUT.md`), and what it is to touch some of them alone: every other byte is as before, and so is the length. Assumes
 -- nothing.
 use Prim.{Unit, tt}
-use Rattle.std.specs.Prelude.{◌≡◌, refl, List, [], ◌∷◌, ℕ, ◌+◌, ◌*◌, ◌≤◌, ◌<◌, length, get_or}
+use Rattle.std.specs.Prelude.{◌≡◌, refl, List, [], ◌∷◌, ℕ, ◌+◌, ◌*◌, ◌≤◌, ◌<◌, length, get_or, Option, Some, None}
 use Rattle.std.proofs.Common.{◌∙◌, arith}
 use Rattle.octets.specs.Only.{OnlyIn}
-use Rattle.octets.specs.declared.Found.{Found}
-use Rattle.octets.specs.declared.Found.TheVariants.{At, Nothing}
 use Rattle.layout.specs.Disk as D
 use Rattle.layout.specs.Session as S
 use Rattle.metadata.specs.declared.choice.Side.{Side}
@@ -145,9 +143,9 @@ slots_of d = bytes (D.data_at 0) (length d)
 
 -- ---- what was found, and nothing where nothing was found
 
-abbrev pub found : (ℕ → List Part) → Found → List Part
-found parts (At p) = parts p
-found parts Nothing = []
+abbrev pub found : (ℕ → List Part) → Option ℕ → List Part
+found parts (Some p) = parts p
+found parts None = []
 
 -- ---- laws
 
@@ -175,10 +173,10 @@ pub stays : (parts : List Part) (q : Part) (s t : List ℕ) → Touches parts s 
 stays parts q s t a elsewhere i h = a.same i (elsewhere i h)
 
 -- of what was found: nothing is touched where nothing was
-pub stays-found : (parts : ℕ → List Part) (f : Found) (q : Part) (s t : List ℕ) → Touches (found parts f) s t
-    → ((p : ℕ) → f ≡ At p → (i : ℕ) → Inside i q → Outside i (parts p)) → Stays q s t
-stays-found parts (At p) q s t a elsewhere = stays (parts p) q s t a (elsewhere p refl)
-stays-found parts Nothing q s t a elsewhere = stays [] q s t a (λ i h. tt)
+pub stays-found : (parts : ℕ → List Part) (f : Option ℕ) (q : Part) (s t : List ℕ) → Touches (found parts f) s t
+    → ((p : ℕ) → f ≡ Some p → (i : ℕ) → Inside i q → Outside i (parts p)) → Stays q s t
+stays-found parts (Some p) q s t a elsewhere = stays (parts p) q s t a (elsewhere p refl)
+stays-found parts None q s t a elsewhere = stays [] q s t a (λ i h. tt)
 
 -- a part of a part
 pub stays_within : (low high from to : ℕ) (s t : List ℕ) → Stays (bytes low high) s t → low ≤ from → to ≤ high → Stays (bytes from to) s t

@@ -1,11 +1,9 @@
 -- What `append_entries` touches: of the session the ring and the staged record of the handle's tape, its cache's bytes, and tracking; of the disk the file
 -- table and the slots. Assumes nothing.
-use Rattle.std.specs.Prelude.{◌≡◌, ◌≢◌, List, [], ◌∷◌, ℕ, ◌+◌, ◌≤◌, ◌<◌}
+use Rattle.std.specs.Prelude.{◌≡◌, ◌≢◌, List, [], ◌∷◌, ℕ, ◌+◌, ◌≤◌, ◌<◌, Option, Some}
 use Rattle.std.proofs.Common.{ap, ◌∙◌, arith}
 use Rattle.std.proofs.Math.ListN.{length}
 use Rattle.octets.specs.Cases.{picked}
-use Rattle.octets.specs.declared.Found.{Found}
-use Rattle.octets.specs.declared.Found.TheVariants.{At}
 use Rattle.answers.specs.Outcome.{Outcome}
 use Rattle.layout.specs.Session.{ring_at, file_size_of}
 use Rattle.ring_buffer.specs.Put.{fills, pushes_out, last_of, after_put}
@@ -89,21 +87,21 @@ module _ (d s : List ℕ) (t h : ℕ) (bs : List ℕ) where
 -- ---- what it leaves
 
 -- mark, head, names, views, transactions; every handle; and of every other tape its row and its cache
-pub record PutLeaves (tape : Found) (s u : List ℕ) : Type 0 where
+pub record PutLeaves (tape : Option ℕ) (s u : List ℕ) : Type 0 where
   pub tables-stay : Stays below_tapes s u
   pub handles-stay : Stays handles s u
-  pub tapes-stay : (q : ℕ) → q < 8 → tape ≢ At q → Stays (tape_of q) s u
-  pub rings-stay : (q : ℕ) → q < 8 → tape ≢ At q → Stays (P.ring_of q) s u
+  pub tapes-stay : (q : ℕ) → q < 8 → tape ≢ Some q → Stays (tape_of q) s u
+  pub rings-stay : (q : ℕ) → q < 8 → tape ≢ Some q → Stays (P.ring_of q) s u
 
-put-leaves : (tape : Found) (s u : List ℕ) → ((p : ℕ) → tape ≡ At p → p < 8) → Touches (found put_parts tape) s u → PutLeaves tape s u
+put-leaves : (tape : Option ℕ) (s u : List ℕ) → ((p : ℕ) → tape ≡ Some p → p < 8) → Touches (found put_parts tape) s u → PutLeaves tape s u
 put-leaves tape s u low a =
-    let rest : (q : Part) → ((p : ℕ) → p < 8 → tape ≡ At p → (i : ℕ) → Inside i q → Outside i (put_parts p)) → Stays q s u
+    let rest : (q : Part) → ((p : ℕ) → p < 8 → tape ≡ Some p → (i : ℕ) → Inside i q → Outside i (put_parts p)) → Stays q s u
     = λ q h. stays-found put_parts tape q s u a (λ p e. h p (low p e) e) in
     record {
       tables-stay = rest below_tapes (λ p small e i h. search arith);
       handles-stay = rest handles (λ p small e i h. search arith);
-      tapes-stay = λ q l d. rest (tape_of q) (λ p small e i h. let n : p ≢ q = λ z. d (e ∙ ap At z) in search arith);
-      rings-stay = λ q l d. rest (P.ring_of q) (λ p small e i h. let n : p ≢ q = λ z. d (e ∙ ap At z) in search arith);
+      tapes-stay = λ q l d. rest (tape_of q) (λ p small e i h. let n : p ≢ q = λ z. d (e ∙ ap Some z) in search arith);
+      rings-stay = λ q l d. rest (P.ring_of q) (λ p small e i h. let n : p ≢ q = λ z. d (e ∙ ap Some z) in search arith);
     }
 
 pub put-leaves-session : (d s : List ℕ) (t h : ℕ) (bs : List ℕ) → PutLeaves (find_handle s h) s (put_call d s t h bs).session

@@ -1,7 +1,6 @@
 -- A reader keeps what it began with: its place and its view are read as before after every call but the drop of its own number. Assumes nothing.
-use Rattle.std.specs.Prelude.{◌≡◌, ◌≢◌, true, List, ℕ, ◌<◌}
+use Rattle.std.specs.Prelude.{◌≡◌, ◌≢◌, true, List, ℕ, ◌<◌, Some}
 use Rattle.std.proofs.Common.{sym, ap, ◌∙◌, true≢false, arith}
-use Rattle.octets.specs.declared.Found.TheVariants.{At}
 use Rattle.session.specs.Rows.{view_of, transaction_of, free_reader, find_transaction}
 use Rattle.beginning.specs.Transactions.{is_open_at}
 use Rattle.beginning.specs.Calls.{append_call, truncate_call, reader_call}
@@ -53,7 +52,7 @@ module _ (x : ℕ) (low : x < 16) (d s : List ℕ) where
   -- a new reader takes no open one's place
   pub reader-keeps : is_open_at s x ≡ true → Keeps x s (reader_call d s).session
   reader-keeps opened =
-      let apart : (t : ℕ) → free_reader s ≡ At t → x ≢ t
+      let apart : (t : ℕ) → free_reader s ≡ Some t → x ≢ t
       = λ t e z. true≢false (sym opened ∙ ap (is_open_at s) z ∙ free-closed s t e) in
       keeps x s _
       (stays-found begun_parts (free_reader s) (P.transaction_of x) s _ (reader-touches d s)
@@ -88,7 +87,7 @@ module _ (x : ℕ) (low : x < 16) (d s : List ℕ) where
       let a = commit-leaves-session d s t in
       keeps x s _ (a.readers-stay x low) (a.views-stay x (omega arith))
 
-  pub drop-transaction-keeps : (n : ℕ) → find_transaction s n ≢ At x → Keeps x s (drop_transaction_call d s n).session
+  pub drop-transaction-keeps : (n : ℕ) → find_transaction s n ≢ Some x → Keeps x s (drop_transaction_call d s n).session
   drop-transaction-keeps n other =
       let u = (drop_transaction_call d s n).session in
       let a = drop-transaction-leaves d s n in

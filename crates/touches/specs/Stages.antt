@@ -1,9 +1,7 @@
 -- What the calls that stage a start or a length touch: `shift_start`, `truncate_tape`, `drop_entries` and `pop_entry` the staged record of the handle's
 -- tape, and nothing else. Assumes nothing.
-use Rattle.std.specs.Prelude.{◌≡◌, ◌≢◌, List, [], ◌∷◌, ℕ, ◌*◌, ◌<◌}
+use Rattle.std.specs.Prelude.{◌≡◌, ◌≢◌, List, [], ◌∷◌, ℕ, ◌*◌, ◌<◌, Option, Some}
 use Rattle.std.proofs.Common.{ap, ◌∙◌, arith}
-use Rattle.octets.specs.declared.Found.{Found}
-use Rattle.octets.specs.declared.Found.TheVariants.{At}
 use Rattle.answers.specs.Outcome.{Popping}
 use Rattle.session.specs.Rows.{find_handle, handle_of}
 use Rattle.session.specs.RowLaws.{only-put_staged}
@@ -56,23 +54,23 @@ pop-touches d s t h out =
 -- ---- what is left
 
 -- mark, head, names, views, transactions; handles and bookkeeping of rings; tracking and caches; and of every other tape the whole row
-pub record StageLeaves (tape : Found) (s u : List ℕ) : Type 0 where
+pub record StageLeaves (tape : Option ℕ) (s u : List ℕ) : Type 0 where
   pub tables-stay : Stays below_tapes s u
   pub handles-stay : Stays handles s u
   pub bookkeepings-stay : Stays bookkeepings s u
-  pub tapes-stay : (q : ℕ) → q < 8 → tape ≢ At q → Stays (tape_of q) s u
+  pub tapes-stay : (q : ℕ) → q < 8 → tape ≢ Some q → Stays (tape_of q) s u
   pub tracking-stays : Stays tracking s u
   pub rings-stay : Stays rings s u
 
-stage-leaves : (tape : Found) (s u : List ℕ) → ((p : ℕ) → tape ≡ At p → p < 8) → Touches (found staged_parts tape) s u → StageLeaves tape s u
+stage-leaves : (tape : Option ℕ) (s u : List ℕ) → ((p : ℕ) → tape ≡ Some p → p < 8) → Touches (found staged_parts tape) s u → StageLeaves tape s u
 stage-leaves tape s u low a =
-    let rest : (q : Part) → ((p : ℕ) → p < 8 → tape ≡ At p → (i : ℕ) → Inside i q → Outside i (staged_parts p)) → Stays q s u
+    let rest : (q : Part) → ((p : ℕ) → p < 8 → tape ≡ Some p → (i : ℕ) → Inside i q → Outside i (staged_parts p)) → Stays q s u
     = λ q h. stays-found staged_parts tape q s u a (λ p e. h p (low p e) e) in
     record {
       tables-stay = rest below_tapes (λ p small e i h. search arith);
       handles-stay = rest handles (λ p small e i h. search arith);
       bookkeepings-stay = rest bookkeepings (λ p small e i h. search arith);
-      tapes-stay = λ q l d. rest (tape_of q) (λ p small e i h. let n : p ≢ q = λ z. d (e ∙ ap At z) in search arith);
+      tapes-stay = λ q l d. rest (tape_of q) (λ p small e i h. let n : p ≢ q = λ z. d (e ∙ ap Some z) in search arith);
       tracking-stays = rest tracking (λ p small e i h. search arith);
       rings-stay = rest rings (λ p small e i h. search arith);
     }

@@ -1,6 +1,6 @@
 -- `lacking_of` is `lacking_of`, up to 65: what was read are the parts of its definition. Assumes nothing.
+use Rattle.std.specs.Prelude.{Some}
 use Rattle.std.proofs.Common.{◌≡◌, sym, ap, ◌∙◌, true, ℕ, ◌<◌, min}
-use Rattle.octets.specs.declared.Found.TheVariants.{At}
 use Rattle.disk.specs.StepLaws.{directory-low}
 use Rattle.staging.specs.Seeing.{directory_of}
 use Rattle.appending.specs.Room.{is_staged}
@@ -15,7 +15,7 @@ pub lacking_in-requires : goal.lacking_in-requires
 lacking_in-requires c =
     let held = staged-held c.args.session.now c.args.to c.args.tape (sym c.is_staged.ensures ∙ c.if-is_staged.true) in
     let some : 0 < c.get_handle-handle.result.file_size = rw c.get_handle-handle.ensures (file-some c.args.session.now c.args.tape c.requires.0.1 c.requires.1.0 held) in
-    (c.requires.0.0, (some, λ (place : ℕ) (e : c.find_directory-directory.result ≡ At place). directory-low c.args.disk.now c.tape_name-name.result.now place (sym c.find_directory-directory.ensures ∙ e)))
+    (c.requires.0.0, (some, λ (place : ℕ) (e : c.find_directory-directory.result ≡ Some place). directory-low c.args.disk.now c.tape_name-name.result.now place (sym c.find_directory-directory.ensures ∙ e)))
 
 pub returns-then-is_staged : goal.returns-then-is_staged
 returns-then-is_staged c =

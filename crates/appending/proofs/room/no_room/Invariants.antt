@@ -12,6 +12,3 @@ pub record Inv (disk session : List ℕ) (to more lacking i : ℕ) : Type 0 wher
 
 abbrev pub invariant-loop-i : goal.invariant-loop-i
 invariant-loop-i l = Inv l.disk l.session l.to l.more l.lacking l.i
-
-abbrev pub decreases-loop-i : goal.decreases-loop-i
-decreases-loop-i l = 8 - l.i

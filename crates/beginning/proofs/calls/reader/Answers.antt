@@ -17,13 +17,13 @@ returns-in_default c =
 pub begin_at-requires : goal.begin_at-requires
 begin_at-requires c =
     let ok : usable c.args.disk.now c.args.session.now ≡ true = sym c.is_usable.ensures ∙ c.if-is_usable.true in
-    let low = free-low c.args.session.now c.in-At.place (sym c.free_reader-free.ensures ∙ c.in-At.is) in
+    let low = free-low c.args.session.now c.in-Some.place (sym c.free_reader-free.ensures ∙ c.in-Some.is) in
     ((usable-begun c.args.disk.now c.args.session.now ok).long, omega arith)
 
 pub returns-then-is_usable : goal.returns-then-is_usable
 returns-then-is_usable c =
     let ok : usable c.args.disk.now c.args.session.now ≡ true = sym c.is_usable.ensures ∙ c.if-is_usable.true in
-    reader-begins c.args.disk.now c.args.session.now ok c.in-At.place (sym c.free_reader-free.ensures ∙ c.in-At.is) ∙ c.begin_at.ensures
+    reader-begins c.args.disk.now c.args.session.now ok c.in-Some.place (sym c.free_reader-free.ensures ∙ c.in-Some.is) ∙ c.begin_at.ensures
 
 pub returns : goal.returns
 returns c =

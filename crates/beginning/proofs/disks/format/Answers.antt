@@ -6,12 +6,12 @@ use Rattle.beginning.specs.Disks.{answered}
 use Rattle.beginning.specs.Ways.{format-answered}
 use Rattle.beginning.proofs.disks.format.Goals as goal
 
-pub returns-in-Done : goal.returns-in-Done
-returns-in-Done c =
+pub returns-in-Ok : goal.returns-in-Ok
+returns-in-Ok c =
     let d = c.format-formatted.new.disk in
     let s = c.format-formatted.new.session in
     format-answered c.args.disk.now c.args.session.now c.args.slots c.format-formatted.result d s c.format-formatted.ensures
-    ∙ ap (λ (a : Formatted). outcome (answered a) d s) c.in-Done.is
+    ∙ ap (λ (a : Formatted). outcome (answered a) d s) c.in-Ok.is
 
 pub returns-in-BadSlotCount : goal.returns-in-BadSlotCount
 returns-in-BadSlotCount c =

@@ -6,6 +6,3 @@ use Rattle.beginning.proofs.transactions.waiting_for.Given as goal
 
 abbrev pub invariant-loop-i : goal.invariant-loop-i
 invariant-loop-i l = (l.i ≤ 16) × ((l.found ≤ l.i) × (l.found + count (is_older l.session l.epoch) (16 - l.i) l.i ≡ waiting_for l.session l.epoch))
-
-abbrev pub decreases-loop-i : goal.decreases-loop-i
-decreases-loop-i l = 16 - l.i

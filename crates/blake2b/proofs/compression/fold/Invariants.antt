@@ -5,6 +5,3 @@ use Rattle.blake2b.proofs.compression.fold.Given as goal
 
 abbrev pub invariant-loop-i : goal.invariant-loop-i
 invariant-loop-i l = (l.i ≤ 8) × ((length l.words ≡ 8) × (take l.i l.words ++ fold_from l.i (drop l.i l.words) l.v ≡ fold_from 0 l.initial.words l.v))
-
-abbrev pub decreases-loop-i : goal.decreases-loop-i
-decreases-loop-i l = 8 - l.i

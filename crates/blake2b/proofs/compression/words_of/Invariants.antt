@@ -5,6 +5,3 @@ use Rattle.blake2b.proofs.compression.words_of.Given as goal
 
 abbrev pub invariant-loop-j : goal.invariant-loop-j
 invariant-loop-j l = (l.j ≤ 16) × ((length l.m ≡ 16) × (take l.j l.m ≡ words_from l.j l.block 0))
-
-abbrev pub decreases-loop-j : goal.decreases-loop-j
-decreases-loop-j l = 16 - l.j

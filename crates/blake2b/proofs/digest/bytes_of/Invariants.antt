@@ -6,6 +6,3 @@ use Rattle.blake2b.proofs.digest.bytes_of.Given as goal
 
 abbrev pub invariant-loop-i : goal.invariant-loop-i
 invariant-loop-i l = (l.i ≤ 8) × ((length l.bytes ≡ 64) × (put l.bytes (8 * l.i) (bytes_of (drop l.i l.words)) ≡ bytes_of l.words))
-
-abbrev pub decreases-loop-i : goal.decreases-loop-i
-decreases-loop-i l = 8 - l.i

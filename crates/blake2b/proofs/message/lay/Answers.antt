@@ -8,9 +8,9 @@ pub returns-then-first-stop : goal.returns-then-first-stop
 returns-then-first-stop c =
     let block = c.args.block.now in
     let part = c.args.part.now in
-    let a : ℕ = c.larger-first.result - c.args.at in
-    let b : ℕ = c.larger-first.result - c.args.from in
-    let n : ℕ = c.smaller-stop.result - c.args.from - b in
+    let a : ℕ = c.max-first.result - c.args.at in
+    let b : ℕ = c.max-first.result - c.args.from in
+    let n : ℕ = c.min-stop.result - c.args.from - b in
     let e : c.copy_in.new.s ≡ put block a (take n (drop b part)) = c.copy_in.ensures in
     e
     ∙ sym

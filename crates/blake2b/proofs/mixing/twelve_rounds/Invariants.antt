@@ -5,6 +5,3 @@ use Rattle.blake2b.proofs.mixing.twelve_rounds.Given as goal
 
 abbrev pub invariant-loop-i : goal.invariant-loop-i
 invariant-loop-i l = (l.i ≤ 12) × (l.v ≡ rounds l.m l.i l.initial.v)
-
-abbrev pub decreases-loop-i : goal.decreases-loop-i
-decreases-loop-i l = 12 - l.i

@@ -14,7 +14,7 @@ push_ring-requires c =
     let begun = c.requires.0 in
     let ring : c.prepare_write-ring.result ≡ prepared (ring_of s c.args.tape) c.args.len = c.prepare_write-ring.ensures ∙ ap (λ (r : RingBuffer). prepared r c.args.len) c.get_ring-before.ensures in
     let sound : Sound c.prepare_write-ring.result 4096 = rw ring (sound-prepared (ring_of s c.args.tape) 4096 (ring-sound s begun c.args.tape c.requires.1.0 c.requires.1.1) c.args.len) in
-    let count = c.smaller-n.ensures in
+    let count = c.min-n.ensures in
     ((begun.long, c.requires.1.0), (sound, simp (length-take, length-drop) (omega arith)))
 
 pub push-requires : goal.push-requires
@@ -22,7 +22,7 @@ push-requires c =
     let s = c.args.session.now in
     let ring : c.prepare_write-ring.result ≡ prepared (ring_of s c.args.tape) c.args.len = c.prepare_write-ring.ensures ∙ ap (λ (r : RingBuffer). prepared r c.args.len) c.get_ring-before.ensures in
     let sound : Sound c.prepare_write-ring.result 4096 = rw ring (sound-prepared (ring_of s c.args.tape) 4096 (ring-sound s c.requires.0 c.args.tape c.requires.1.0 c.requires.1.1) c.args.len) in
-    let count = c.smaller-n.ensures in
+    let count = c.min-n.ensures in
     (sound.inside, (sound.short, (omega arith, sound.small)))
 
 pub returns : goal.returns
@@ -31,8 +31,8 @@ returns c =
     let p = c.args.tape in
     let src = c.args.src.now in
     let ring : c.prepare_write-ring.result ≡ prepared (ring_of s p) c.args.len = c.prepare_write-ring.ensures ∙ ap (λ (r : RingBuffer). prepared r c.args.len) c.get_ring-before.ensures in
-    let n = c.smaller-n.result in
-    let count : n ≡ min (length src) (prepared (ring_of s p) c.args.len).capacity = c.smaller-n.ensures ∙ ap (λ (r : RingBuffer). min (length src) r.capacity) ring in
+    let n = c.min-n.result in
+    let count : n ≡ min (length src) (prepared (ring_of s p) c.args.len).capacity = c.min-n.ensures ∙ ap (λ (r : RingBuffer). min (length src) r.capacity) ring in
     let by = length src - n in
     let part : take (length src - by) (drop by src) ≡ drop by src = take_all (length src - by) (drop by src) (simp length-drop (omega arith)) in
     let first : c.push_ring.new.session ≡ push_ring s p c.prepare_write-ring.result (take (length src - by) (drop by src)) = c.push_ring.ensures in

@@ -5,5 +5,5 @@ use Rattle.cached_tape.proofs.serving.below_cache.Goals as goal
 
 pub returns : goal.returns
 returns c =
-    c.smaller.ensures
+    c.min.ensures
     ∙ ap (min c.args.count) (c.above-below.ensures ∙ ap (λ (r : RingBuffer). r.first - c.args.offset) c.get_ring-ring.ensures)

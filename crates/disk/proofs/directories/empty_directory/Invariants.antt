@@ -14,6 +14,3 @@ pub record Inv (disk₀ : List ℕ) (place count : ℕ) (disk : List ℕ) (i : �
 
 abbrev pub invariant-loop-i : goal.invariant-loop-i
 invariant-loop-i l = Inv l.initial.disk l.place l.count l.disk l.i
-
-abbrev pub decreases-loop-i : goal.decreases-loop-i
-decreases-loop-i l = l.count - l.i

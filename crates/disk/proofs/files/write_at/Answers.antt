@@ -15,4 +15,4 @@ returns c =
     let old : c.u64_at-old.result ≡ len c.args.disk.now c.args.slot = c.u64_at-old.ensures in
     let d = data_at c.args.slot in
     let gap : d + c.args.at - (d + c.u64_at-old.result) ≡ c.args.at - c.u64_at-old.result = omega arith in
-    c.put_u64.ensures ∙ rw (c.larger-end.ensures, c.copy_in.ensures, c.fill_zero.ensures, gap, old)
+    c.put_u64.ensures ∙ rw (c.max-end.ensures, c.copy_in.ensures, c.fill_zero.ensures, gap, old)

@@ -6,6 +6,3 @@ use Rattle.disk.proofs.search.each_lacks.Given as goal
 
 abbrev pub invariant-loop-i : goal.invariant-loop-i
 invariant-loop-i l = all (is_not l.disk l.place l.number) (l.to - l.i) l.i ≡ all (is_not l.disk l.place l.number) (l.to - l.from) l.from
-
-abbrev pub decreases-loop-i : goal.decreases-loop-i
-decreases-loop-i l = l.to - l.i

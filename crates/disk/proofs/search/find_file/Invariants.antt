@@ -8,11 +8,6 @@ use Rattle.disk.proofs.search.find_file.Given as goal
 abbrev pub invariant-loop-slot : goal.invariant-loop-slot
 invariant-loop-slot l = (l.slot ≤ l.count) × (first (is_file l.disk l.place l.number) (l.count - l.slot) l.slot ≡ find_file l.disk l.name l.number)
 
-abbrev pub decreases-loop-slot : goal.decreases-loop-slot
-decreases-loop-slot l = l.count - l.slot
+abbrev pub invariant-loop-place : goal.invariant-loop-place
+invariant-loop-place l = (l.place ≤ 8) × (within l.disk l.number (first (named l.disk l.name) (8 - l.place) l.place) ≡ find_file l.disk l.name l.number)
 
-abbrev pub invariant-search : goal.invariant-search
-invariant-search l = (l.place ≤ 8) × (within l.disk l.number (first (named l.disk l.name) (8 - l.place) l.place) ≡ find_file l.disk l.name l.number)
-
-abbrev pub decreases-search : goal.decreases-search
-decreases-search l = 8 - l.place

@@ -7,6 +7,3 @@ use Rattle.disk.proofs.search.find_in.Given as goal
 
 abbrev pub invariant-loop-slot : goal.invariant-loop-slot
 invariant-loop-slot l = (l.slot ≤ l.count) × ((l.count ≡ slots l.disk) × (first (is_file l.disk l.place l.number) (l.count - l.slot) l.slot ≡ find_in l.disk l.place l.number))
-
-abbrev pub decreases-loop-slot : goal.decreases-loop-slot
-decreases-loop-slot l = l.count - l.slot

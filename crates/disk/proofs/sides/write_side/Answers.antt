@@ -25,4 +25,4 @@ put_u64-requires c =
 pub returns : goal.returns
 unfolding write_side
 returns c =
-    c.put_u64.ensures ∙ rw (c.larger-end.ensures, c.copy_in.ensures, c.u64_at-old.ensures, c.side_at.ensures, c.side_len_at-len_at.ensures)
+    c.put_u64.ensures ∙ rw (c.max-end.ensures, c.copy_in.ensures, c.u64_at-old.ensures, c.side_at.ensures, c.side_len_at-len_at.ensures)

@@ -6,6 +6,3 @@ use Rattle.ending.proofs.checking.all_there.Given as goal
 
 abbrev pub invariant-loop-i : goal.invariant-loop-i
 invariant-loop-i l = (l.i ≤ 8) × (all (has_directory l.disk l.session) (8 - l.i) l.i ≡ all_there l.disk l.session)
-
-abbrev pub decreases-loop-i : goal.decreases-loop-i
-decreases-loop-i l = 8 - l.i

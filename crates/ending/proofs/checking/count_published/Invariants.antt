@@ -6,6 +6,3 @@ use Rattle.ending.proofs.checking.count_published.Given as goal
 
 abbrev pub invariant-loop-i : goal.invariant-loop-i
 invariant-loop-i l = (l.found ≤ l.i) × ((l.i ≤ 8) × (l.found + count (is_published l.session l.cut) (8 - l.i) l.i ≡ count (is_published l.session l.cut) 8 0))
-
-abbrev pub decreases-loop-i : goal.decreases-loop-i
-decreases-loop-i l = 8 - l.i

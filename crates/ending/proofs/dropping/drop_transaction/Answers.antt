@@ -19,12 +19,12 @@ drop_at-requires c =
     let d = c.args.disk.now in
     let s = c.args.session.now in
     let ok : usable d s ≡ true = sym c.is_usable.ensures ∙ c.if-is_usable.true in
-    ((usable-disk d s ok, usable-begun d s ok), transaction-low s c.args.transaction c.in-At.place (sym c.find_transaction.ensures ∙ c.in-At.is))
+    ((usable-disk d s ok, usable-begun d s ok), transaction-low s c.args.transaction c.in-Some.place (sym c.find_transaction.ensures ∙ c.in-Some.is))
 
 pub returns-then-is_usable : goal.returns-then-is_usable
 returns-then-is_usable c =
-    drop-served c.args.disk.now c.args.session.now c.args.transaction (sym c.is_usable.ensures ∙ c.if-is_usable.true) c.in-At.place
-    (sym c.find_transaction.ensures ∙ c.in-At.is) c.drop_at.ensures
+    drop-served c.args.disk.now c.args.session.now c.args.transaction (sym c.is_usable.ensures ∙ c.if-is_usable.true) c.in-Some.place
+    (sym c.find_transaction.ensures ∙ c.in-Some.is) c.drop_at.ensures
 
 pub returns : goal.returns
 returns c =

@@ -1,6 +1,6 @@
 -- `forget` leaves `forgotten`: the directory was sought before the first put, and each put is made on what the last one left. Assumes nothing.
+use Rattle.std.specs.Prelude.{Option}
 use Rattle.std.proofs.Common.{length, ◌≡◌, sym, ◌∙◌, List, [], ℕ, arith}
-use Rattle.octets.specs.declared.Found.{Found}
 use Rattle.layout.specs.Disk.{directories}
 use Rattle.layout.specs.Names.{name, find_name, put_name}
 use Rattle.layout.specs.Session.{names_at}
@@ -13,7 +13,7 @@ use Rattle.ending.specs.Steps.{unstage}
 use Rattle.ending.specs.Dropping.{untrack_in, forgotten}
 use Rattle.ending.proofs.dropping.forget.Goals as goal
 
-module _ (d s : List ℕ) (p : ℕ) {own : List ℕ} {found : Found} (named : own ≡ name s names_at p) (read : found ≡ find_name d directories own) where
+module _ (d s : List ℕ) (p : ℕ) {own : List ℕ} {found : Option ℕ} (named : own ≡ name s names_at p) (read : found ≡ find_name d directories own) where
   written : {handle : Handle} {ring : RingBuffer} {a b e f t : List ℕ} → a ≡ unstage p s → b ≡ untrack_in d a found → handle ≡ no_handle → e ≡ put_handle b p handle
       → ring ≡ no_ring → f ≡ put_ring e p ring → t ≡ put_name f names_at p [] → t ≡ forgotten d p s
   unfolding forgotten

@@ -1,14 +1,14 @@
 -- `is_next` is `is_next`: each test that fails makes the conjunction false, and behind both stands the comparison with the best. Assumes nothing.
+use Rattle.std.specs.Prelude.{Option}
 use Rattle.std.proofs.Common.{◌≡◌, sym, ◌∙◌, Bool, true, false, List, ℕ}
 use Rattle.octets.specs.Compare.{comes_before}
-use Rattle.octets.specs.declared.Found.{Found}
 use Rattle.layout.specs.Names.{name}
 use Rattle.layout.specs.Session.{names_at}
 use Rattle.session.specs.declared.views.View.{View}
 use Rattle.ending.specs.Listing.{published, is_less, is_next}
 use Rattle.ending.proofs.listing.is_next.Goals as goal
 
-module _ (s : List ℕ) (cut : Bool) (before : List ℕ) (best : Found) (p : ℕ) (v : View) (read : v ≡ published s cut p) where
+module _ (s : List ℕ) (cut : Bool) (before : List ℕ) (best : Option ℕ) (p : ℕ) (v : View) (read : v ≡ published s cut p) where
   absent : v.listed ≡ false → false ≡ is_next s cut before best p
   unfolding is_next
   absent f = rw (← read, f)

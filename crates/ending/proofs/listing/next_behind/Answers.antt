@@ -1,12 +1,12 @@
+use Rattle.std.specs.Prelude.{Some, None}
 use Rattle.std.proofs.Common.{◌≡◌, refl, sym, ◌∙◌, ℕ, arith}
-use Rattle.octets.specs.declared.Found.TheVariants.{At, Nothing}
 use Rattle.ending.specs.Listing.{next_behind}
 use Rattle.ending.specs.ListingLaws.{next-hit, next-miss, next-end}
 use Rattle.ending.proofs.listing.next_behind.Goals as goal
 
 pub loop-i-init : goal.loop-i-init
 unfolding next_behind
-loop-i-init c = (omega arith, ((λ (p : ℕ) (e : Nothing ≡ At p). let z : ◌≡◌ {A = ℕ} 0 1 = cc in absurd (omega arith)), refl))
+loop-i-init c = (omega arith, ((λ (p : ℕ) (e : None ≡ Some p). let z : ◌≡◌ {A = ℕ} 0 1 = cc in absurd (omega arith)), refl))
 
 pub is_next-requires : goal.is_next-requires
 is_next-requires c =
@@ -15,7 +15,7 @@ is_next-requires c =
 pub loop-i-preserved-then-is_next : goal.loop-i-preserved-then-is_next
 loop-i-preserved-then-is_next c =
     let turn = next-hit c.args.session.now c.args.cut c.args.before.now c.loop-i.best c.loop-i.i (omega arith) (sym c.is_next.ensures ∙ c.if-is_next.true) in
-    (omega arith, ((λ (p : ℕ) (e : At c.loop-i.i ≡ At p). let same : c.loop-i.i ≡ p = cc in omega arith), sym turn ∙ c.loop-i.invariant.1.1))
+    (omega arith, ((λ (p : ℕ) (e : Some c.loop-i.i ≡ Some p). let same : c.loop-i.i ≡ p = cc in omega arith), sym turn ∙ c.loop-i.invariant.1.1))
 
 pub loop-i-preserved : goal.loop-i-preserved
 loop-i-preserved c =

@@ -1,12 +1,9 @@
 -- `next_behind` is `next_behind`: the search over the tapes that are left, from the best so far, is the whole search. Assumes nothing.
+use Rattle.std.specs.Prelude.{Some}
 use Rattle.std.proofs.Common.{◌≡◌, ℕ, ◌-◌, ◌≤◌, ◌<◌}
 use Rattle.octets.specs.Sweep.{sweep}
-use Rattle.octets.specs.declared.Found.TheVariants.{At}
 use Rattle.ending.specs.Listing.{better, next_behind}
 use Rattle.ending.proofs.listing.next_behind.Given as goal
 
 abbrev pub invariant-loop-i : goal.invariant-loop-i
-invariant-loop-i l = (l.i ≤ 8) × (((p : ℕ) → l.best ≡ At p → p < 8) × (sweep (better l.session l.cut l.before) (8 - l.i) l.i l.best ≡ next_behind l.session l.cut l.before))
-
-abbrev pub decreases-loop-i : goal.decreases-loop-i
-decreases-loop-i l = 8 - l.i
+invariant-loop-i l = (l.i ≤ 8) × (((p : ℕ) → l.best ≡ Some p → p < 8) × (sweep (better l.session l.cut l.before) (8 - l.i) l.i l.best ≡ next_behind l.session l.cut l.before))

@@ -1,5 +1,5 @@
+use Rattle.std.specs.Prelude.{Some}
 use Rattle.std.proofs.Common.{◌≡◌, refl, sym, ap, ◌∙◌, Bool, List, [], ◌∷◌, ◌++◌, append-nil, append_assoc, ℕ, ◌+◌, ◌-◌, ◌≤◌, ◌<◌, arith, set, replicate, length-append}
-use Rattle.octets.specs.declared.Found.TheVariants.{At}
 use Rattle.metadata.specs.declared.list.TapeMetadata.{TapeMetadata}
 use Rattle.metadata.specs.declared.list.TapeList.{TapeList}
 use Rattle.metadata.specs.Tapes.{Tape}
@@ -33,7 +33,7 @@ letters s cut p begun low = name-short s p begun low
 
 module _ {s : List ℕ} {cut : Bool} {array : List TapeMetadata} {before : TapeMetadata} {i : ℕ} (r : Listed s cut array before i) where
   -- one more tape
-  turn : {p : ℕ} {t : TapeMetadata} → Begun s → i < 8 → next_behind s cut (meaning before).name ≡ At p → t ≡ stored (tape_in s cut p)
+  turn : {p : ℕ} {t : TapeMetadata} → Begun s → i < 8 → next_behind s cut (meaning before).name ≡ Some p → t ≡ stored (tape_in s cut p)
       → Listed s cut (set array i t) t (i + 1)
   turn {p} begun l e f =
       let size = r.size in
@@ -73,11 +73,11 @@ returns-in_default c =
 
 pub tape_in-before-requires : goal.tape_in-before-requires
 tape_in-before-requires c =
-    (c.requires, next-behind-low _ _ _ _ (sym c.next_after.ensures ∙ c.in-At.is))
+    (c.requires, next-behind-low _ _ _ _ (sym c.next_after.ensures ∙ c.in-Some.is))
 
 pub loop-i-preserved : goal.loop-i-preserved
 loop-i-preserved c =
-    turn c.loop-i.invariant c.requires (omega arith) (sym c.next_after.ensures ∙ c.in-At.is) c.tape_in-before.ensures
+    turn c.loop-i.invariant c.requires (omega arith) (sym c.next_after.ensures ∙ c.in-Some.is) c.tape_in-before.ensures
 
 pub returns : goal.returns
 returns c =

@@ -18,6 +18,3 @@ pub record Listed (s : List ℕ) (cut : Bool) (array : List TapeMetadata) (befor
 
 abbrev pub invariant-loop-i : goal.invariant-loop-i
 invariant-loop-i l = Listed l.session l.cut l.tapes l.before l.i
-
-abbrev pub decreases-loop-i : goal.decreases-loop-i
-decreases-loop-i l = 8 - l.i

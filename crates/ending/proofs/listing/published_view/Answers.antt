@@ -22,7 +22,7 @@ module _ (s : List ℕ) (cut : Bool) (p : ℕ) where
 
 pub returns-then-cut : goal.returns-then-cut
 returns-then-cut c =
-    shorter c.args.session.now c.args.cut c.args.tape (sym c.is_touched.ensures ∙ c.if-is_touched.true) _ c.get_staged-staged.ensures _ c.if-cut.true c.smaller-start.ensures
+    shorter c.args.session.now c.args.cut c.args.tape (sym c.is_touched.ensures ∙ c.if-is_touched.true) _ c.get_staged-staged.ensures _ c.if-cut.true c.min-start.ensures
 
 pub returns-else-cut : goal.returns-else-cut
 returns-else-cut c =

@@ -64,7 +64,7 @@ get_transaction-row-requires c =
 
 pub loop-left-preserved-then-any : goal.loop-left-preserved-then-any
 loop-left-preserved-then-any c =
-    further c.loop-left.invariant (omega arith) (sym c.is_open.ensures ∙ c.if-is_open.true) _ c.get_transaction-row.ensures c.if-any.true c.smaller-oldest.ensures
+    further c.loop-left.invariant (omega arith) (sym c.is_open.ensures ∙ c.if-is_open.true) _ c.get_transaction-row.ensures c.if-any.true c.min-oldest.ensures
 
 pub loop-left-preserved-else-any : goal.loop-left-preserved-else-any
 loop-left-preserved-else-any c =

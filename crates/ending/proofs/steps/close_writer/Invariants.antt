@@ -11,6 +11,3 @@ pub record Inv (session₀ session : List ℕ) (i : ℕ) : Type 0 where
 
 abbrev pub invariant-loop-i : goal.invariant-loop-i
 invariant-loop-i l = Inv l.initial.session l.session l.i
-
-abbrev pub decreases-loop-i : goal.decreases-loop-i
-decreases-loop-i l = 8 - l.i

@@ -15,6 +15,3 @@ pub record Inv (disk session₀ session : List ℕ) (i : ℕ) : Type 0 where
 
 abbrev pub invariant-loop-i : goal.invariant-loop-i
 invariant-loop-i l = Inv l.disk l.initial.session l.session l.i
-
-abbrev pub decreases-loop-i : goal.decreases-loop-i
-decreases-loop-i l = 8 - l.i

@@ -1,7 +1,6 @@
 -- `cut_tape` leaves `cut_tape`: of a tape that was touched the ring is cut, and marks are cleared if it has its directory. Assumes nothing.
+use Rattle.std.specs.Prelude.{Option, Some, None}
 use Rattle.std.proofs.Common.{◌≡◌, sym, ◌∙◌, true, false, List, ℕ, arith}
-use Rattle.octets.specs.declared.Found.{Found}
-use Rattle.octets.specs.declared.Found.TheVariants.{At, Nothing}
 use Rattle.layout.specs.Disk.{directories}
 use Rattle.layout.specs.Names.{name, find_name}
 use Rattle.disk.specs.StepLaws.{directory-low}
@@ -22,12 +21,12 @@ module _ (d s : List ℕ) (p : ℕ) where
   unfolding cut_tape
   untouched e = rw e
 
-  module _ (e : is_touched s p ≡ true) {own : List ℕ} (named : own ≡ name s names_at p) {found : Found} (read : found ≡ find_name d directories own) where
-    missing : found ≡ Nothing → cut_ring p s ≡ cut_tape d p s
+  module _ (e : is_touched s p ≡ true) {own : List ℕ} (named : own ≡ name s names_at p) {found : Option ℕ} (read : found ≡ find_name d directories own) where
+    missing : found ≡ None → cut_ring p s ≡ cut_tape d p s
     unfolding cut_tape
     missing q = rw (e, ← named, ← read, q)
 
-    there : (place : ℕ) → found ≡ At place → (fs first : ℕ) (row : Staged) (t : List ℕ) → fs ≡ file_size_of s p → row ≡ staged_of s p → first ≡ file_of fs row.len
+    there : (place : ℕ) → found ≡ Some place → (fs first : ℕ) (row : Staged) (t : List ℕ) → fs ≡ file_size_of s p → row ≡ staged_of s p → first ≡ file_of fs row.len
         → t ≡ cut_ring p s → retracked d t place (ClearFrom first) ≡ cut_tape d p s
     unfolding cut_tape
     there place q fs first row t size staged number cut = rw (e, ← named, ← read, q, cut, number, size, staged)
@@ -48,15 +47,15 @@ pub retrack-requires : goal.retrack-requires
 retrack-requires c =
     let long = c.requires.0.1.long in
     let same = c.cut_ring.auto.session in
-    ((c.requires.0.0, omega arith), directory-low c.args.disk.now _ c.in-At.place (sym c.find_directory-found.ensures ∙ c.in-At.is))
+    ((c.requires.0.0, omega arith), directory-low c.args.disk.now _ c.in-Some.place (sym c.find_directory-found.ensures ∙ c.in-Some.is))
 
-pub returns-in-At : goal.returns-in-At
-returns-in-At c =
+pub returns-in-Some : goal.returns-in-Some
+returns-in-Some c =
     let s = c.args.session.now in
     let p = c.args.tape in
     let size : c.get_handle-handle.result.file_size ≡ file_size_of s p = handle-size s p c.get_handle-handle.result c.get_handle-handle.ensures in
     c.retrack.ensures
-    ∙ there c.args.disk.now s p (sym c.is_touched.ensures ∙ c.if-is_touched.true) c.tape_name-name.ensures c.find_directory-found.ensures c.in-At.place c.in-At.is
+    ∙ there c.args.disk.now s p (sym c.is_touched.ensures ∙ c.if-is_touched.true) c.tape_name-name.ensures c.find_directory-found.ensures c.in-Some.place c.in-Some.is
     c.get_handle-handle.result.file_size c.file_of-first.result c.get_staged-staged.result c.cut_ring.new.session size c.get_staged-staged.ensures c.file_of-first.ensures c.cut_ring.ensures
 
 pub returns-else-is_touched : goal.returns-else-is_touched

@@ -15,6 +15,3 @@ pub record Inv (disk₀ session₀ disk session : List ℕ) (i : ℕ) : Type 0 w
 
 abbrev pub invariant-loop-i : goal.invariant-loop-i
 invariant-loop-i l = Inv l.initial.disk l.initial.session l.disk l.session l.i
-
-abbrev pub decreases-loop-i : goal.decreases-loop-i
-decreases-loop-i l = 8 - l.i

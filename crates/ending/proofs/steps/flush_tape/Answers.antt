@@ -1,7 +1,6 @@
 -- `flush_tape` leaves `flush_tape`: of a tape that was touched and has its directory, what the files lack is written. Assumes nothing.
+use Rattle.std.specs.Prelude.{Option, Some, None}
 use Rattle.std.proofs.Common.{◌≡◌, sym, ◌∙◌, true, false, List, ℕ}
-use Rattle.octets.specs.declared.Found.{Found}
-use Rattle.octets.specs.declared.Found.TheVariants.{At, Nothing}
 use Rattle.layout.specs.Disk.{directories}
 use Rattle.layout.specs.Names.{name, find_name}
 use Rattle.disk.specs.StepLaws.{directory-low}
@@ -20,12 +19,12 @@ module _ (d s : List ℕ) (p : ℕ) where
   unfolding flush_tape
   untouched e = rw e
 
-  module _ (e : is_touched s p ≡ true) {own : List ℕ} (named : own ≡ name s names_at p) {found : Found} (read : found ≡ find_name d directories own) where
-    missing : found ≡ Nothing → flush_tape p (areas d s) ≡ areas d s
+  module _ (e : is_touched s p ≡ true) {own : List ℕ} (named : own ≡ name s names_at p) {found : Option ℕ} (read : found ≡ find_name d directories own) where
+    missing : found ≡ None → flush_tape p (areas d s) ≡ areas d s
     unfolding flush_tape
     missing q = rw (e, ← named, ← read, q)
 
-    there : (place : ℕ) → found ≡ At place → (row : Staged) → row ≡ staged_of s p → flush_tape p (areas d s) ≡ flushed (areas d s) place p row
+    there : (place : ℕ) → found ≡ Some place → (row : Staged) → row ≡ staged_of s p → flush_tape p (areas d s) ≡ flushed (areas d s) place p row
     unfolding flush_tape
     there place q row r = rw (e, ← named, ← read, q, ← r)
 
@@ -39,11 +38,11 @@ flush-requires c =
     let p = c.args.tape in
     let t : is_touched s p ≡ true = sym c.is_touched.ensures ∙ c.if-is_touched.true in
     let pending = staged-pending s p c.requires.0.1 c.requires.1 t in
-    ((c.requires.0, (directory-low c.args.disk.now _ c.in-At.place (sym c.find_directory.ensures ∙ c.in-At.is), c.requires.1)), (touched-held s p t, rw c.get_staged-row.ensures pending))
+    ((c.requires.0, (directory-low c.args.disk.now _ c.in-Some.place (sym c.find_directory.ensures ∙ c.in-Some.is), c.requires.1)), (touched-held s p t, rw c.get_staged-row.ensures pending))
 
-pub returns-in-At : goal.returns-in-At
-returns-in-At c =
-    there c.args.disk.now c.args.session.now c.args.tape (sym c.is_touched.ensures ∙ c.if-is_touched.true) c.tape_name-name.ensures c.find_directory.ensures c.in-At.place c.in-At.is c.get_staged-row.result c.get_staged-row.ensures ∙ c.flush.ensures
+pub returns-in-Some : goal.returns-in-Some
+returns-in-Some c =
+    there c.args.disk.now c.args.session.now c.args.tape (sym c.is_touched.ensures ∙ c.if-is_touched.true) c.tape_name-name.ensures c.find_directory.ensures c.in-Some.place c.in-Some.is c.get_staged-row.result c.get_staged-row.ensures ∙ c.flush.ensures
 
 pub returns-else-is_touched : goal.returns-else-is_touched
 returns-else-is_touched c =

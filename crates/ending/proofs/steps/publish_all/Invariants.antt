@@ -13,6 +13,3 @@ pub record Inv (session₀ : List ℕ) (cut : Bool) (session : List ℕ) (i : �
 
 abbrev pub invariant-loop-i : goal.invariant-loop-i
 invariant-loop-i l = Inv l.initial.session l.cut l.session l.i
-
-abbrev pub decreases-loop-i : goal.decreases-loop-i
-decreases-loop-i l = 8 - l.i

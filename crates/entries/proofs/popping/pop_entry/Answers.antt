@@ -1,6 +1,6 @@
 -- `pop_entry` is `pop_call`: each way out is its law, and what was found lets `pop_on` be called. Assumes nothing.
+use Rattle.std.specs.Prelude.{Some}
 use Rattle.std.proofs.Common.{◌≡◌, sym, ◌∙◌, true}
-use Rattle.octets.specs.declared.Found.TheVariants.{At}
 use Rattle.session.specs.Rows.{find_handle}
 use Rattle.beginning.specs.Transactions.{usable}
 use Rattle.beginning.specs.Ways.{usable-begun, usable-disk}
@@ -36,8 +36,8 @@ pop_on-requires c =
     let d = c.args.disk.now in
     let s = c.args.session.now in
     let ok : usable d s ≡ true = sym c.is_usable.ensures ∙ c.if-is_usable.true in
-    let held : find_handle s c.args.handle ≡ At c.in-At.tape = sym c.find_handle.ensures ∙ c.in-At.is in
-    let row = handle-found s c.args.handle c.in-At.tape held in
+    let held : find_handle s c.args.handle ≡ Some c.in-Some.tape = sym c.find_handle.ensures ∙ c.in-Some.is in
+    let row = handle-found s c.args.handle c.in-Some.tape held in
     ((usable-disk d s ok, usable-begun d s ok), (row.low, row.held))
 
 pub returns-then-is_cutting : goal.returns-then-is_cutting
@@ -46,8 +46,8 @@ returns-then-is_cutting c =
     let s = c.args.session.now in
     let ok : usable d s ≡ true = sym c.is_usable.ensures ∙ c.if-is_usable.true in
     let there : cuts s c.args.transaction ≡ true = sym c.is_cutting.ensures ∙ c.if-is_cutting.true in
-    let held : find_handle s c.args.handle ≡ At c.in-At.tape = sym c.find_handle.ensures ∙ c.in-At.is in
-    pop_goes d s c.args.transaction c.args.handle c.args.out.now ok there c.in-At.tape held ∙ c.pop_on.ensures
+    let held : find_handle s c.args.handle ≡ Some c.in-Some.tape = sym c.find_handle.ensures ∙ c.in-Some.is in
+    pop_goes d s c.args.transaction c.args.handle c.args.out.now ok there c.in-Some.tape held ∙ c.pop_on.ensures
 
 pub returns-then-is_usable : goal.returns-then-is_usable
 returns-then-is_usable c =

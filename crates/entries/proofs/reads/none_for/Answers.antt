@@ -1,12 +1,12 @@
 -- `none_for` is `none_for`: the arm of the rest is taken at every other variant. Assumes nothing.
+use Rattle.std.specs.Prelude.{Some, Ok, Err}
 use Rattle.std.proofs.Common.{◌≡◌, refl, sym, ap}
-use Rattle.answers.specs.declared.OneEntry.TheVariants as One
 use Rattle.answers.specs.declared.Refusal.{Refusal}
 use Rattle.answers.specs.declared.Refusal.TheVariants.{Unusable, Unknown, WriterOpen, Wait, Full, BadName, ReservedName, BadSize, AlreadyOpen, NotWhole, Absent, OutOfBounds, StartPastLength, LongerCut, NoSlot, Missing, BadList, TooLarge}
 use Rattle.entries.specs.Reads.{none_for}
 use Rattle.entries.proofs.reads.none_for.Goals as goal
 
-rest : (why : Refusal) → (why ≡ OutOfBounds → ⊥) → One.Refused why ≡ none_for why
+rest : (why : Refusal) → (why ≡ OutOfBounds → ⊥) → Err why ≡ none_for why
 rest Unusable k = refl
 rest Unknown k = refl
 rest WriterOpen k = refl

@@ -3,10 +3,10 @@ use Rattle.std.proofs.Common.{sym, ap, ◌∙◌}
 use Rattle.entries.specs.Reads.{one_of}
 use Rattle.entries.proofs.reads.one_of.Goals as goal
 
-pub returns-in-Done : goal.returns-in-Done
-returns-in-Done c =
-    ap (one_of c.args.index) (sym c.in-Done.is)
+pub returns-in-Ok : goal.returns-in-Ok
+returns-in-Ok c =
+    ap (one_of c.args.index) (sym c.in-Ok.is)
 
-pub returns-in-Refused : goal.returns-in-Refused
-returns-in-Refused c =
-    c.none_for.ensures ∙ ap (one_of c.args.index) (sym c.in-Refused.is)
+pub returns-in-Err : goal.returns-in-Err
+returns-in-Err c =
+    c.none_for.ensures ∙ ap (one_of c.args.index) (sym c.in-Err.is)

@@ -1,6 +1,6 @@
 -- `read_entries` is `read_call`: each way out is its law, and what was found lets `read_on` be called. Assumes nothing.
+use Rattle.std.specs.Prelude.{Some}
 use Rattle.std.proofs.Common.{◌≡◌, sym, ◌∙◌, true}
-use Rattle.octets.specs.declared.Found.TheVariants.{At}
 use Rattle.session.specs.Rows.{find_transaction, find_handle}
 use Rattle.beginning.specs.Transactions.{usable}
 use Rattle.beginning.specs.Ways.{usable-begun, usable-disk}
@@ -34,27 +34,27 @@ returns-in_default-find_handle c =
     let d = c.args.disk.now in
     let s = c.args.session.now in
     let ok : usable d s ≡ true = sym c.is_usable.ensures ∙ c.if-is_usable.true in
-    let there : find_transaction s c.args.transaction ≡ At c.in-At.place = sym c.find_transaction.ensures ∙ c.in-At.is in
-    read-no-handle d s c.args.transaction c.args.handle c.args.index c.args.count c.args.out.now ok c.in-At.place there (sym c.find_handle.ensures ∙ c.in_default-find_handle.is)
+    let there : find_transaction s c.args.transaction ≡ Some c.in-Some.place = sym c.find_transaction.ensures ∙ c.in-Some.is in
+    read-no-handle d s c.args.transaction c.args.handle c.args.index c.args.count c.args.out.now ok c.in-Some.place there (sym c.find_handle.ensures ∙ c.in_default-find_handle.is)
 
 pub read_on-requires : goal.read_on-requires
 read_on-requires c =
     let d = c.args.disk.now in
     let s = c.args.session.now in
     let ok : usable d s ≡ true = sym c.is_usable.ensures ∙ c.if-is_usable.true in
-    let there : find_transaction s c.args.transaction ≡ At c.in-At.place = sym c.find_transaction.ensures ∙ c.in-At.is in
-    let held : find_handle s c.args.handle ≡ At c.in-At-find_handle.tape = sym c.find_handle.ensures ∙ c.in-At-find_handle.is in
-    let row = handle-found s c.args.handle c.in-At-find_handle.tape held in
-    (((usable-disk d s ok, usable-begun d s ok), transaction-low s c.args.transaction c.in-At.place there), (row.low, row.held))
+    let there : find_transaction s c.args.transaction ≡ Some c.in-Some.place = sym c.find_transaction.ensures ∙ c.in-Some.is in
+    let held : find_handle s c.args.handle ≡ Some c.in-Some-find_handle.tape = sym c.find_handle.ensures ∙ c.in-Some-find_handle.is in
+    let row = handle-found s c.args.handle c.in-Some-find_handle.tape held in
+    (((usable-disk d s ok, usable-begun d s ok), transaction-low s c.args.transaction c.in-Some.place there), (row.low, row.held))
 
 pub returns-then-is_usable : goal.returns-then-is_usable
 returns-then-is_usable c =
     let d = c.args.disk.now in
     let s = c.args.session.now in
     let ok : usable d s ≡ true = sym c.is_usable.ensures ∙ c.if-is_usable.true in
-    let there : find_transaction s c.args.transaction ≡ At c.in-At.place = sym c.find_transaction.ensures ∙ c.in-At.is in
-    let held : find_handle s c.args.handle ≡ At c.in-At-find_handle.tape = sym c.find_handle.ensures ∙ c.in-At-find_handle.is in
-    read_goes d s c.args.transaction c.args.handle c.args.index c.args.count c.args.out.now ok c.in-At.place there c.in-At-find_handle.tape held ∙ c.read_on.ensures
+    let there : find_transaction s c.args.transaction ≡ Some c.in-Some.place = sym c.find_transaction.ensures ∙ c.in-Some.is in
+    let held : find_handle s c.args.handle ≡ Some c.in-Some-find_handle.tape = sym c.find_handle.ensures ∙ c.in-Some-find_handle.is in
+    read_goes d s c.args.transaction c.args.handle c.args.index c.args.count c.args.out.now ok c.in-Some.place there c.in-Some-find_handle.tape held ∙ c.read_on.ensures
 
 pub returns : goal.returns
 returns c =

@@ -1,8 +1,8 @@
 -- `serve_on` is `serve_on`: the front of the buffer is lent to `serve`, and put back it is a `put` of what is served. Assumes nothing.
+use Rattle.std.specs.Prelude.{Ok}
 use Rattle.std.proofs.Common.{length, ◌≡◌, sym, ap, ◌∙◌, List, ◌++◌, ℕ, ◌+◌, ◌*◌, ◌≤◌, ◌<◌, ◌^◌, arith, drop, length-take-le}
 use Rattle.octets.specs.Bytes.{put, put_front}
 use Rattle.answers.specs.Outcome.{reading}
-use Rattle.answers.specs.declared.Answer.TheVariants.{Done}
 use Rattle.layout.specs.Session.{entry_size_of}
 use Rattle.cached_tape.specs.Serving.{served}
 use Rattle.cached_tape.specs.ServeLaws.{length-served}
@@ -80,9 +80,9 @@ returns-then-can_serve c =
     let new : part ≡ served d s p (i * e) (n * e) = c.serve.ensures ∙ rw (length-take-le (n * e) out room) in
     let long : length part ≡ n * e = ap length new ∙ length-served d s p (i * e) (n * e) in
     serve-can d s p i n out e size (sym c.can_serve.ensures ∙ c.if-can_serve.true)
-    ∙ ap (λ (l : List ℕ). reading (Done n) (put out 0 l)) (sym new)
-    ∙ ap (λ (l : List ℕ). reading (Done n) l) (put_front out part (omega arith))
-    ∙ ap (λ (k : ℕ). reading (Done n) (part ++ drop k out)) long
+    ∙ ap (λ (l : List ℕ). reading (Ok n) (put out 0 l)) (sym new)
+    ∙ ap (λ (l : List ℕ). reading (Ok n) l) (put_front out part (omega arith))
+    ∙ ap (λ (k : ℕ). reading (Ok n) (part ++ drop k out)) long
 
 pub returns : goal.returns
 returns c =

@@ -8,11 +8,11 @@ loop-i-init c = refl
 
 pub loop-i-preserved : goal.loop-i-preserved
 loop-i-preserved c =
-    sym (all-hit (entry_fits c.args.disk.now) c.args.to c.loop-i.i c.loop-i-test.true (sym c.entry_fits.ensures ∙ c.if-entry_fits.true)) ∙ c.loop-i.invariant
+    sym (all-hit (entry_fits c.args.disk.now) c.args.to c.loop-i.i c.loop-i-test.true (sym c.entry_fits.ensures ∙ c.if-not-entry_fits.false)) ∙ c.loop-i.invariant
 
-pub returns-else-entry_fits : goal.returns-else-entry_fits
-returns-else-entry_fits c =
-    sym (all-miss (entry_fits c.args.disk.now) c.args.to c.loop-i.i c.loop-i-test.true (sym c.entry_fits.ensures ∙ c.if-entry_fits.false)) ∙ c.loop-i.invariant
+pub returns-then-not-entry_fits : goal.returns-then-not-entry_fits
+returns-then-not-entry_fits c =
+    sym (all-miss (entry_fits c.args.disk.now) c.args.to c.loop-i.i c.loop-i-test.true (sym c.entry_fits.ensures ∙ c.if-not-entry_fits.true)) ∙ c.loop-i.invariant
 
 pub returns : goal.returns
 returns c =

@@ -6,6 +6,3 @@ use Rattle.layout.proofs.disk_area.each_fits.Given as goal
 
 abbrev pub invariant-loop-i : goal.invariant-loop-i
 invariant-loop-i l = all (entry_fits l.disk) (l.to - l.i) l.i ≡ all (entry_fits l.disk) (l.to - l.from) l.from
-
-abbrev pub decreases-loop-i : goal.decreases-loop-i
-decreases-loop-i l = l.to - l.i

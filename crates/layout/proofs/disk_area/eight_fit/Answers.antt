@@ -13,12 +13,12 @@ pub loop-i-preserved : goal.loop-i-preserved
 loop-i-preserved c =
     let low : c.args.slot + c.loop-i.i < c.args.slot + 8 = omega arith in
     let e : c.args.slot + (c.loop-i.i + 1) ≡ c.args.slot + c.loop-i.i + 1 = omega arith in
-    (omega arith, rw e (sym (all-hit (entry_fits c.args.disk.now) (c.args.slot + 8) (c.args.slot + c.loop-i.i) low (sym c.entry_fits.ensures ∙ c.if-entry_fits.true)) ∙ c.loop-i.invariant.1))
+    (omega arith, rw e (sym (all-hit (entry_fits c.args.disk.now) (c.args.slot + 8) (c.args.slot + c.loop-i.i) low (sym c.entry_fits.ensures ∙ c.if-not-entry_fits.false)) ∙ c.loop-i.invariant.1))
 
-pub returns-else-entry_fits : goal.returns-else-entry_fits
-returns-else-entry_fits c =
+pub returns-then-not-entry_fits : goal.returns-then-not-entry_fits
+returns-then-not-entry_fits c =
     let low : c.args.slot + c.loop-i.i < c.args.slot + 8 = omega arith in
-    sym (all-miss (entry_fits c.args.disk.now) (c.args.slot + 8) (c.args.slot + c.loop-i.i) low (sym c.entry_fits.ensures ∙ c.if-entry_fits.false)) ∙ c.loop-i.invariant.1
+    sym (all-miss (entry_fits c.args.disk.now) (c.args.slot + 8) (c.args.slot + c.loop-i.i) low (sym c.entry_fits.ensures ∙ c.if-not-entry_fits.true)) ∙ c.loop-i.invariant.1
 
 pub returns : goal.returns
 returns c =

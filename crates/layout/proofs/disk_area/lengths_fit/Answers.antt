@@ -18,16 +18,16 @@ loop-i-preserved c =
     let low : at < c.args.slot + 8 = omega arith in
     let e : c.args.slot + (c.loop-i.i + 1) ≡ at + 1 = omega arith in
     let here = joined_length s c.args.slot c.loop-i.i few (omega arith) in
-    (omega arith, rw e (sym (all-hit (entry_fits s) (c.args.slot + 8) at low (here ∙ sym c.length_fits.ensures ∙ c.if-length_fits.true)) ∙ c.loop-i.invariant.1))
+    (omega arith, rw e (sym (all-hit (entry_fits s) (c.args.slot + 8) at low (here ∙ sym c.length_fits.ensures ∙ c.if-not-length_fits.false)) ∙ c.loop-i.invariant.1))
 
-pub returns-else-length_fits : goal.returns-else-length_fits
-returns-else-length_fits c =
+pub returns-then-not-length_fits : goal.returns-then-not-length_fits
+returns-then-not-length_fits c =
     let s = c.args.disk.now in
     let at = c.args.slot + c.loop-i.i in
     let few : c.loop-i.i < 8 = omega arith in
     let low : at < c.args.slot + 8 = omega arith in
     let here = joined_length s c.args.slot c.loop-i.i few (omega arith) in
-    sym (all-miss (entry_fits s) (c.args.slot + 8) at low (here ∙ sym c.length_fits.ensures ∙ c.if-length_fits.false)) ∙ c.loop-i.invariant.1
+    sym (all-miss (entry_fits s) (c.args.slot + 8) at low (here ∙ sym c.length_fits.ensures ∙ c.if-not-length_fits.true)) ∙ c.loop-i.invariant.1
 
 pub returns : goal.returns
 returns c =

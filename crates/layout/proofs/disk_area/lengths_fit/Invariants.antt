@@ -7,6 +7,3 @@ use Rattle.layout.proofs.disk_area.lengths_fit.Given as goal
 
 abbrev pub invariant-loop-i : goal.invariant-loop-i
 invariant-loop-i l = (l.i ≤ 8) × (all (entry_fits l.disk) (l.slot + 8 - (l.slot + l.i)) (l.slot + l.i) ≡ all (entry_fits l.disk) 8 l.slot)
-
-abbrev pub decreases-loop-i : goal.decreases-loop-i
-decreases-loop-i l = 8 - l.i

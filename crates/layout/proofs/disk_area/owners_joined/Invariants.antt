@@ -6,6 +6,3 @@ use Rattle.layout.proofs.disk_area.owners_joined.Given as goal
 
 abbrev pub invariant-loop-i : goal.invariant-loop-i
 invariant-loop-i l = (l.i ≤ 8) × (l.joined ≡ joined (λ (k : ℕ). owner l.disk (l.slot + k)) l.i)
-
-abbrev pub decreases-loop-i : goal.decreases-loop-i
-decreases-loop-i l = 8 - l.i

@@ -10,6 +10,3 @@ has area base wanted i = same_bytes (name area base i) wanted
 
 abbrev pub invariant-loop-i : goal.invariant-loop-i
 invariant-loop-i l = (l.i ≤ 8) × (first (has l.area l.base l.wanted) (8 - l.i) l.i ≡ find_name l.area l.base l.wanted)
-
-abbrev pub decreases-loop-i : goal.decreases-loop-i
-decreases-loop-i l = 8 - l.i

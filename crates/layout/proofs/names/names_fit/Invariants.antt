@@ -6,6 +6,3 @@ use Rattle.layout.proofs.names.names_fit.Given as goal
 
 abbrev pub invariant-loop-i : goal.invariant-loop-i
 invariant-loop-i l = (l.i ≤ 8) × (all (name_fits l.area l.base) (8 - l.i) l.i ≡ all (name_fits l.area l.base) 8 0)
-
-abbrev pub decreases-loop-i : goal.decreases-loop-i
-decreases-loop-i l = 8 - l.i

@@ -6,6 +6,3 @@ use Rattle.layout.proofs.session_area.readers_joined.Given as goal
 
 abbrev pub invariant-loop-i : goal.invariant-loop-i
 invariant-loop-i l = (l.i ≤ 16) × (l.joined ≡ joined (kind_word l.session) l.i)
-
-abbrev pub decreases-loop-i : goal.decreases-loop-i
-decreases-loop-i l = 16 - l.i

@@ -9,12 +9,12 @@ loop-i-init c = (omega arith, refl)
 pub loop-i-preserved : goal.loop-i-preserved
 loop-i-preserved c =
     let low : c.loop-i.i < 8 = omega arith in
-    (omega arith, sym (all-hit (tape_fits c.args.session.now) 8 c.loop-i.i low (sym c.tape_fits.ensures ∙ c.if-tape_fits.true)) ∙ c.loop-i.invariant.1)
+    (omega arith, sym (all-hit (tape_fits c.args.session.now) 8 c.loop-i.i low (sym c.tape_fits.ensures ∙ c.if-not-tape_fits.false)) ∙ c.loop-i.invariant.1)
 
-pub returns-else-tape_fits : goal.returns-else-tape_fits
-returns-else-tape_fits c =
+pub returns-then-not-tape_fits : goal.returns-then-not-tape_fits
+returns-then-not-tape_fits c =
     let low : c.loop-i.i < 8 = omega arith in
-    sym (all-miss (tape_fits c.args.session.now) 8 c.loop-i.i low (sym c.tape_fits.ensures ∙ c.if-tape_fits.false)) ∙ c.loop-i.invariant.1
+    sym (all-miss (tape_fits c.args.session.now) 8 c.loop-i.i low (sym c.tape_fits.ensures ∙ c.if-not-tape_fits.true)) ∙ c.loop-i.invariant.1
 
 pub returns : goal.returns
 returns c =

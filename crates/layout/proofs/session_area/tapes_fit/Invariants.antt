@@ -6,6 +6,3 @@ use Rattle.layout.proofs.session_area.tapes_fit.Given as goal
 
 abbrev pub invariant-loop-i : goal.invariant-loop-i
 invariant-loop-i l = (l.i ≤ 8) × (all (tape_fits l.session) (8 - l.i) l.i ≡ all (tape_fits l.session) 8 0)
-
-abbrev pub decreases-loop-i : goal.decreases-loop-i
-decreases-loop-i l = 8 - l.i

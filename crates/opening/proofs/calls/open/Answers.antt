@@ -1,6 +1,6 @@
 -- `open` is `open_call`: each way out is its law, and what was found lets the rest be called. Assumes nothing.
+use Rattle.std.specs.Prelude.{Option}
 use Rattle.std.proofs.Common.{◌≡◌, sym, ap, ◌∙◌, true}
-use Rattle.octets.specs.declared.Found.{Found}
 use Rattle.layout.specs.Names.{find_name}
 use Rattle.layout.specs.Session.{names_at}
 use Rattle.session.specs.declared.views.View.{View}
@@ -57,7 +57,7 @@ returns-then-is_writing c =
     let view : c.view_found-view.result ≡ view_found s c.find_tape-tape.result = c.view_found-view.ensures in
     let o : c.opening_of-o.result ≡ opening_of c.view_found-view.result entry size cache start = c.opening_of-o.ensures in
     open-goes d s c.args.transaction c.args.name.now c.args.entry c.args.file_size c.args.cache c.args.start ok (sym c.is_writing.ensures ∙ c.if-is_writing.true)
-    ∙ ap (λ (f : Found). open_on d s wanted (opening_of (view_found s f) entry size cache start) f) (sym found)
+    ∙ ap (λ (f : Option ℕ). open_on d s wanted (opening_of (view_found s f) entry size cache start) f) (sym found)
     ∙ ap (λ (v : View). open_on d s wanted (opening_of v entry size cache start) c.find_tape-tape.result) (sym view)
     ∙ ap (λ (x : Opening). open_on d s wanted x c.find_tape-tape.result) (sym o)
     ∙ c.open_on.ensures

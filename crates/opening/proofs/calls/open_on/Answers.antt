@@ -1,6 +1,6 @@
 -- `open_on` is `open_on`: a shape that is answered Done has a name and sizes in range. Assumes nothing.
+use Rattle.std.specs.Prelude.{Ok}
 use Rattle.std.proofs.Common.{◌≡◌, sym, ◌∙◌}
-use Rattle.answers.specs.declared.Answer.TheVariants.{Done}
 use Rattle.opening.specs.Shape.{shape_of}
 use Rattle.opening.specs.ShapeLaws.{shape-done}
 use Rattle.opening.specs.CallWays.{on-shaped, on-refused}
@@ -8,23 +8,23 @@ use Rattle.opening.proofs.calls.open_on.Goals as goal
 
 pub open_at-requires : goal.open_at-requires
 open_at-requires c =
-    let done : shape_of c.args.name.now c.args.o ≡ Done c.in-Done.field-0 = sym c.shape_of-shape.ensures ∙ c.in-Done.is in
-    let shaped = shape-done c.args.name.now c.args.o c.in-Done.field-0 done in
+    let done : shape_of c.args.name.now c.args.o ≡ Ok c.in-Ok.field-0 = sym c.shape_of-shape.ensures ∙ c.in-Ok.is in
+    let shaped = shape-done c.args.name.now c.args.o c.in-Ok.field-0 done in
     (c.requires, (shaped.name-short, ((shaped.file-some, shaped.file-small), shaped.cache-small)))
 
-pub returns-in-Done : goal.returns-in-Done
-returns-in-Done c =
+pub returns-in-Ok : goal.returns-in-Ok
+returns-in-Ok c =
     let d = c.args.disk.now in
     let s = c.args.session.now in
     let wanted = c.args.name.now in
     let o = c.args.o in
-    let done : shape_of wanted o ≡ Done c.in-Done.field-0 = sym c.shape_of-shape.ensures ∙ c.in-Done.is in
-    on-shaped d s wanted o c.args.tape c.in-Done.field-0 done ∙ c.open_at.ensures
+    let done : shape_of wanted o ≡ Ok c.in-Ok.field-0 = sym c.shape_of-shape.ensures ∙ c.in-Ok.is in
+    on-shaped d s wanted o c.args.tape c.in-Ok.field-0 done ∙ c.open_at.ensures
 
-pub returns-in-Refused : goal.returns-in-Refused
-returns-in-Refused c =
+pub returns-in-Err : goal.returns-in-Err
+returns-in-Err c =
     let d = c.args.disk.now in
     let s = c.args.session.now in
     let wanted = c.args.name.now in
     let o = c.args.o in
-    on-refused d s wanted o c.args.tape c.in-Refused.why (sym c.shape_of-shape.ensures ∙ c.in-Refused.is)
+    on-refused d s wanted o c.args.tape c.in-Err.why (sym c.shape_of-shape.ensures ∙ c.in-Err.is)

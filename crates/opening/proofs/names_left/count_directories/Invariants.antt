@@ -7,6 +7,3 @@ use Rattle.opening.proofs.names_left.count_directories.Given as goal
 
 abbrev pub invariant-loop-i : goal.invariant-loop-i
 invariant-loop-i l = (l.i ≤ 8) × ((l.found ≤ l.i) × (l.found + count (is_named l.disk directories) (8 - l.i) l.i ≡ count (is_named l.disk directories) 8 0))
-
-abbrev pub decreases-loop-i : goal.decreases-loop-i
-decreases-loop-i l = 8 - l.i

@@ -3,6 +3,6 @@ use Rattle.std.proofs.Common.{sym, ap}
 use Rattle.opening.specs.NamesLeft.{is_at}
 use Rattle.opening.proofs.names_left.is_at.Goals as goal
 
-pub returns-in-At : goal.returns-in-At
-returns-in-At c =
-    sym (ap (is_at c.args.place) c.in-At.is)
+pub returns-in-Some : goal.returns-in-Some
+returns-in-Some c =
+    sym (ap (is_at c.args.place) c.in-Some.is)

@@ -1,7 +1,7 @@
 -- `open_with` leaves `open_with`: the head is as it was when the directory is ready and the name put, so there is a next number. Assumes nothing.
+use Rattle.std.specs.Prelude.{Ok}
 use Rattle.std.proofs.Common.{length, ◌≡◌, sym, ap, ◌∙◌, arith}
 use Rattle.answers.specs.Outcome.{outcome}
-use Rattle.answers.specs.declared.Answer.TheVariants.{Done}
 use Rattle.layout.specs.Names.{put_name}
 use Rattle.layout.specs.Session.{names_at}
 use Rattle.session.specs.Rows.{head_of, transaction_of}
@@ -68,4 +68,4 @@ returns c =
     = ap (λ (t : Transaction). readied (areas d s) wanted o t.epoch c.args.directory) (sym c.get_transaction-writer.ensures) ∙ c.ready.ensures in
     let name_in : c.put_tape_name.new.session ≡ put_name c.ready.new.session names_at p wanted = c.put_tape_name.ensures in
     let row : c.put_row.new.session ≡ rowed c.put_tape_name.new.session p o src = c.put_row.ensures in
-    ap (λ (b : Areas). outcome (Done (next_handle s)) b.disk (rowed (put_name b.session names_at p wanted) p o src)) made ∙ rw (row, name_in, head)
+    ap (λ (b : Areas). outcome (Ok (next_handle s)) b.disk (rowed (put_name b.session names_at p wanted) p o src)) made ∙ rw (row, name_in, head)

@@ -18,15 +18,15 @@ returns-in_default c =
 pub get_handle-row-requires : goal.get_handle-row-requires
 get_handle-row-requires c = (
   (begun→ c.args.session.now (sym c.is_begun_session.ensures ∙ c.if-is_begun_session.true)).long,
-  (handle-found c.args.session.now c.args.handle c.in-At.tape (sym c.find_handle.ensures ∙ c.in-At.is)).low,
+  (handle-found c.args.session.now c.args.handle c.in-Some.tape (sym c.find_handle.ensures ∙ c.in-Some.is)).low,
 )
 
 pub returns-then-is_begun_session : goal.returns-then-is_begun_session
 returns-then-is_begun_session c =
-    handle-entry c.args.session.now c.in-At.tape c.get_handle-row.result c.get_handle-row.ensures
+    handle-entry c.args.session.now c.in-Some.tape c.get_handle-row.result c.get_handle-row.ensures
     ∙ sym
-    (entry_known c.args.session.now c.args.handle c.in-At.tape (sym c.is_begun_session.ensures ∙ c.if-is_begun_session.true)
-    (sym c.find_handle.ensures ∙ c.in-At.is))
+    (entry_known c.args.session.now c.args.handle c.in-Some.tape (sym c.is_begun_session.ensures ∙ c.if-is_begun_session.true)
+    (sym c.find_handle.ensures ∙ c.in-Some.is))
 
 pub returns : goal.returns
 returns c =

@@ -20,8 +20,8 @@ slice_bounds-put_reply-end c =
     let fits : c.args.count * c.entry_of-entry.result ≤ 4096 = ltb-false 4096 (c.args.count * c.entry_of-entry.result) (sym c.is_long_read.ensures ∙ c.if-is_long_read.false) in
     omega arith
 
-pub slice_bounds-put_reply-end-in-Done : goal.slice_bounds-put_reply-end-in-Done
-slice_bounds-put_reply-end-in-Done c =
+pub slice_bounds-put_reply-end-in-Ok : goal.slice_bounds-put_reply-end-in-Ok
+slice_bounds-put_reply-end-in-Ok c =
     let fits : c.args.count * c.entry_of-entry.result ≤ 4096 = ltb-false 4096 (c.args.count * c.entry_of-entry.result) (sym c.is_long_read.ensures ∙ c.if-is_long_read.false) in
     simp length-take (omega arith)
 
@@ -30,17 +30,17 @@ put_reply-requires c =
     let fits : c.args.count * c.entry_of-entry.result ≤ 4096 = ltb-false 4096 (c.args.count * c.entry_of-entry.result) (sym c.is_long_read.ensures ∙ c.if-is_long_read.false) in
     simp length-take (omega arith)
 
-pub returns-in-Done : goal.returns-in-Done
-returns-in-Done c =
+pub returns-in-Ok : goal.returns-in-Ok
+returns-in-Ok c =
     let short : ltb 4096 (c.args.count * entry_for c.args.session.now c.args.handle) ≡ false = rw (← c.entry_of-entry.ensures) (sym c.is_long_read.ensures ∙ c.if-is_long_read.false) in
-    rw (read_short c.args.disk.now c.args.session.now c.args.number c.args.space.now c.args.transaction c.args.handle c.args.offset c.args.count (reading c.read_entries-answer.result c.read_entries-answer.new.out) short c.read_entries-answer.ensures, c.in-Done.is, ← c.entry_of-entry.ensures)
+    rw (read_short c.args.disk.now c.args.session.now c.args.number c.args.space.now c.args.transaction c.args.handle c.args.offset c.args.count (reading c.read_entries-answer.result c.read_entries-answer.new.out) short c.read_entries-answer.ensures, c.in-Ok.is, ← c.entry_of-entry.ensures)
     (refl, c.put_reply.ensures)
 
-pub returns-in-Refused : goal.returns-in-Refused
-returns-in-Refused c =
+pub returns-in-Err : goal.returns-in-Err
+returns-in-Err c =
     let short : ltb 4096 (c.args.count * entry_for c.args.session.now c.args.handle) ≡ false = rw (← c.entry_of-entry.ensures) (sym c.is_long_read.ensures ∙ c.if-is_long_read.false) in
     rw (
       read_short c.args.disk.now c.args.session.now c.args.number c.args.space.now c.args.transaction c.args.handle c.args.offset c.args.count (reading c.read_entries-answer.result c.read_entries-answer.new.out) short c.read_entries-answer.ensures,
-      c.in-Refused.is,
+      c.in-Err.is,
     )
-    (refl, (rw c.in-Refused.is at c.reply_with.ensures))
+    (refl, (rw c.in-Err.is at c.reply_with.ensures))

@@ -64,9 +64,9 @@ loop-done-init c =
 pub loop-done-preserved : goal.loop-done-preserved
 loop-done-preserved c =
     let ring = c.args.ring in
-    let n = c.smaller-n.result in
+    let n = c.min-n.result in
     let p = (ring.start + c.args.k % ring.capacity) % ring.capacity in
-    let least : n ≡ min (ring.capacity - c.loop-done.place) (length c.args.out.now - c.loop-done.done) = c.smaller-n.ensures in
+    let least : n ≡ min (ring.capacity - c.loop-done.place) (length c.args.out.now - c.loop-done.done) = c.min-n.ensures in
     let e : c.loop-done.place + n - c.loop-done.place ≡ n = omega arith in
     let copied : c.copy_in.new.s ≡ put c.loop-done.out c.loop-done.done (take (c.loop-done.place + n - c.loop-done.place) (drop c.loop-done.place c.args.bytes.now)) = c.copy_in.ensures in
     let more : c.loop-done.done < length c.args.out.now = omega arith in

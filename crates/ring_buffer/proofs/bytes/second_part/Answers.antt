@@ -5,12 +5,12 @@ use Rattle.ring_buffer.proofs.bytes.second_part.Goals as goal
 
 pub slice_bounds-result-end : goal.slice_bounds-result-end
 slice_bounds-result-end c =
-    let n : c.smaller.result ≡ min c.args.ring.len (c.args.ring.capacity - c.args.ring.start) = c.smaller.ensures in
-    sym (length-take-le (c.args.ring.len - c.smaller.result) c.args.bytes.now (omega arith))
+    let n : c.min.result ≡ min c.args.ring.len (c.args.ring.capacity - c.args.ring.start) = c.min.ensures in
+    sym (length-take-le (c.args.ring.len - c.min.result) c.args.bytes.now (omega arith))
 
 pub returns : goal.returns
 unfolding second_part
 returns c =
-    let n : c.smaller.result ≡ min c.args.ring.len (c.args.ring.capacity - c.args.ring.start) = c.smaller.ensures in
-    let e : c.args.ring.len - c.smaller.result ≡ c.args.ring.len - (c.args.ring.capacity - c.args.ring.start) = omega arith in
+    let n : c.min.result ≡ min c.args.ring.len (c.args.ring.capacity - c.args.ring.start) = c.min.ensures in
+    let e : c.args.ring.len - c.min.result ≡ c.args.ring.len - (c.args.ring.capacity - c.args.ring.start) = omega arith in
     ap (λ (k : ℕ). take k c.args.bytes.now) e

@@ -11,24 +11,24 @@ returns-in_default c =
 pub may_read-requires : goal.may_read-requires
 may_read-requires c =
     let few = c.requires.0.head.few in
-    let low = file-low c.args.disk.now c.args.tape.now c.args.number c.in-At.slot (sym c.find_file-found.ensures ∙ c.in-At.is) in
+    let low = file-low c.args.disk.now c.args.tape.now c.args.number c.in-Some.slot (sym c.find_file-found.ensures ∙ c.in-Some.is) in
     search rules
 
 pub get_entry-file-requires : goal.get_entry-file-requires
 get_entry-file-requires c =
-    let low = file-low c.args.disk.now c.args.tape.now c.args.number c.in-At.slot (sym c.find_file-found.ensures ∙ c.in-At.is) in
+    let low = file-low c.args.disk.now c.args.tape.now c.args.number c.in-Some.slot (sym c.find_file-found.ensures ∙ c.in-Some.is) in
     search rules
 
 pub returns-then-may_read : goal.returns-then-may_read
 returns-then-may_read c =
     let d = c.args.disk.now in
-    let met = sym c.find_file-found.ensures ∙ c.in-At.is in
+    let met = sym c.find_file-found.ensures ∙ c.in-Some.is in
     let may = sym c.may_read.ensures ∙ c.if-may_read.true in
-    ap (leb c.args.end) (entry-len d c.in-At.slot _ c.get_entry-file.ensures)
-    ∙ sym (lies-up-to d c.args.session.now c.args.only_tracked c.args.tape.now c.args.number c.args.end c.in-At.slot met may)
+    ap (leb c.args.end) (entry-len d c.in-Some.slot _ c.get_entry-file.ensures)
+    ∙ sym (lies-up-to d c.args.session.now c.args.only_tracked c.args.tape.now c.args.number c.args.end c.in-Some.slot met may)
 
 pub returns : goal.returns
 returns c =
-    let met = sym c.find_file-found.ensures ∙ c.in-At.is in
+    let met = sym c.find_file-found.ensures ∙ c.in-Some.is in
     let not = sym c.may_read.ensures ∙ c.if-may_read.false in
-    sym (lies-not c.args.disk.now c.args.session.now c.args.only_tracked c.args.tape.now c.args.number c.args.end c.in-At.slot met not)
+    sym (lies-not c.args.disk.now c.args.session.now c.args.only_tracked c.args.tape.now c.args.number c.args.end c.in-Some.slot met not)

@@ -10,6 +10,3 @@ passes d s place oldest n i = not (stops d s place oldest n i)
 
 abbrev pub invariant-loop-i : goal.invariant-loop-i
 invariant-loop-i l = (l.i ≤ l.count) × (all (passes l.disk l.session l.place l.oldest l.number) (l.count - l.i) l.i ≡ clear_below l.disk l.session l.place l.oldest l.number)
-
-abbrev pub decreases-loop-i : goal.decreases-loop-i
-decreases-loop-i l = l.count - l.i

@@ -15,6 +15,3 @@ pub record Inv (disk₀ session₀ : List ℕ) (place oldest count : ℕ) (disk 
 
 abbrev pub invariant-loop-i : goal.invariant-loop-i
 invariant-loop-i l = Inv l.initial.disk l.initial.session l.place l.oldest l.count l.disk l.session l.i
-
-abbrev pub decreases-loop-i : goal.decreases-loop-i
-decreases-loop-i l = l.count - l.i

@@ -11,6 +11,3 @@ pub record Inv (disk : List ℕ) (place first count lacking done : ℕ) : Type 0
 
 abbrev pub invariant-loop-done : goal.invariant-loop-done
 invariant-loop-done l = Inv l.disk l.place l.first l.count l.lacking l.done
-
-abbrev pub decreases-loop-done : goal.decreases-loop-done
-decreases-loop-done l = l.count - l.done

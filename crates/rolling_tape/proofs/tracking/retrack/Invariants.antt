@@ -12,6 +12,3 @@ pub record Inv (disk session₀ : List ℕ) (place : ℕ) (change : Change) (cou
 
 abbrev pub invariant-loop-i : goal.invariant-loop-i
 invariant-loop-i l = Inv l.disk l.initial.session l.place l.change l.count l.session l.i
-
-abbrev pub decreases-loop-i : goal.decreases-loop-i
-decreases-loop-i l = l.count - l.i

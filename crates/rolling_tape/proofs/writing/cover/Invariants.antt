@@ -14,6 +14,3 @@ pub record Inv (disk₀ session₀ : List ℕ) (place first count : ℕ) (disk s
 
 abbrev pub invariant-loop-done : goal.invariant-loop-done
 invariant-loop-done l = Inv l.initial.disk l.initial.session l.place l.first l.count l.disk l.session l.done
-
-abbrev pub decreases-loop-done : goal.decreases-loop-done
-decreases-loop-done l = l.count - l.done

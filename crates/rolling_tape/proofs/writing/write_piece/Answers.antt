@@ -11,10 +11,10 @@ returns-in_default c =
 
 pub write_at-requires : goal.write_at-requires
 write_at-requires c =
-    let low : c.in-At.slot < slots c.args.disk.now = find-low c.args.disk.now c.args.place c.args.number c.in-At.slot (sym c.find_in-found.ensures ∙ c.in-At.is) in
+    let low : c.in-Some.slot < slots c.args.disk.now = find-low c.args.disk.now c.args.place c.args.number c.in-Some.slot (sym c.find_in-found.ensures ∙ c.in-Some.is) in
     ((c.requires.0.0, low), c.requires.1)
 
 pub returns : goal.returns
 returns c =
     c.write_at.ensures
-    ∙ sym (write-found c.args.disk.now c.args.place c.args.number c.args.at c.args.src.now c.in-At.slot (sym c.find_in-found.ensures ∙ c.in-At.is))
+    ∙ sym (write-found c.args.disk.now c.args.place c.args.number c.args.at c.args.src.now c.in-Some.slot (sym c.find_in-found.ensures ∙ c.in-Some.is))

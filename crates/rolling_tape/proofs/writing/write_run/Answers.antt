@@ -15,7 +15,7 @@ write_piece-requires c =
     let fs = c.args.file_size in
     let o = c.args.offset + c.loop-done.done in
     let n = length c.args.src.now - c.loop-done.done in
-    let count : c.smaller-n.result ≡ first_count fs o n = c.smaller-n.ensures ∙ ap (min n) c.left_in-left.ensures in
+    let count : c.min-n.result ≡ first_count fs o n = c.min-n.ensures ∙ ap (min n) c.left_in-left.ensures in
     let place : c.place_in.result ≡ place_in fs o = c.place_in.ensures in
     let some = piece-some fs o n c.requires.1.0.0 (omega arith) in
     let fits = piece-fits fs o n c.requires.1.0.0 in
@@ -27,7 +27,7 @@ loop-done-smaller c =
     let fs = c.args.file_size in
     let o = c.args.offset + c.loop-done.done in
     let n = length c.args.src.now - c.loop-done.done in
-    let count : c.smaller-n.result ≡ first_count fs o n = c.smaller-n.ensures ∙ ap (min n) c.left_in-left.ensures in
+    let count : c.min-n.result ≡ first_count fs o n = c.min-n.ensures ∙ ap (min n) c.left_in-left.ensures in
     let some = piece-some fs o n c.requires.1.0.0 (omega arith) in
     omega arith
 
@@ -38,8 +38,8 @@ loop-done-preserved c =
     let src = c.args.src.now in
     let o = c.args.offset + c.loop-done.done in
     let n = length src - c.loop-done.done in
-    let k = c.smaller-n.result in
-    let count : k ≡ first_count fs o n = c.smaller-n.ensures ∙ ap (min n) c.left_in-left.ensures in
+    let k = c.min-n.result in
+    let count : k ≡ first_count fs o n = c.min-n.ensures ∙ ap (min n) c.left_in-left.ensures in
     let file : c.file_of.result ≡ file_of fs o = c.file_of.ensures in
     let place : c.place_in.result ≡ place_in fs o = c.place_in.ensures in
     let raw : c.write_piece.new.disk ≡ write_piece c.loop-done.disk c.args.place c.file_of.result c.place_in.result (take (c.loop-done.done + k - c.loop-done.done) (drop c.loop-done.done src))

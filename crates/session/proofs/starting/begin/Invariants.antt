@@ -12,6 +12,3 @@ pub record Inv (session₀ : List ℕ) (list : TapeList) (count : ℕ) (session 
 
 abbrev pub invariant-loop-i : goal.invariant-loop-i
 invariant-loop-i l = Inv l.initial.session l.list l.count l.session l.i
-
-abbrev pub decreases-loop-i : goal.decreases-loop-i
-decreases-loop-i l = l.count - l.i

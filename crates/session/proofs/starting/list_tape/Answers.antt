@@ -12,17 +12,17 @@ slice_bounds-name-end c =
 pub slice_bounds-put_tape_name-end : goal.slice_bounds-put_tape_name-end
 slice_bounds-put_tape_name-end c =
     let long : length c.args.tape.name ≡ 24 = search rules in
-    sym (length-take-le c.smaller-letters.result c.args.tape.name (omega arith))
+    sym (length-take-le c.min-letters.result c.args.tape.name (omega arith))
 
 pub put_tape_name-requires : goal.put_tape_name-requires
 put_tape_name-requires c =
-    let short = length-take c.smaller-letters.result c.args.tape.name in
+    let short = length-take c.min-letters.result c.args.tape.name in
     ((search rules, search rules), omega arith)
 
 pub returns : goal.returns
 unfolding listed
 returns c =
     let long : length c.args.tape.name ≡ 24 = search rules in
-    let whole : take c.smaller-letters.result c.args.tape.name ≡ take c.args.tape.letters c.args.tape.name
-    = ap (λ (k : ℕ). take k c.args.tape.name) c.smaller-letters.ensures ∙ take_min c.args.tape.letters 24 c.args.tape.name long in
+    let whole : take c.min-letters.result c.args.tape.name ≡ take c.args.tape.letters c.args.tape.name
+    = ap (λ (k : ℕ). take k c.args.tape.name) c.min-letters.ensures ∙ take_min c.args.tape.letters 24 c.args.tape.name long in
     c.put_view.ensures ∙ rw (c.put_tape_name.ensures, whole)

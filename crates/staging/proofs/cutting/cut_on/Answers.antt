@@ -1,7 +1,7 @@
 -- `cut_on` is `cut_on`; an index that is not past the length has a product that fits. Assumes nothing.
+use Rattle.std.specs.Prelude.{Ok}
 use Rattle.std.proofs.Common.{sym, ap, ◌∙◌, List, ℕ, ◌*◌, ◌≤◌, arith}
 use Rattle.components.specs.BoundsLaws.{up_to-true}
-use Rattle.answers.specs.declared.Answer.TheVariants.{Done}
 use Rattle.beginning.specs.Transactions.{after}
 use Rattle.staging.specs.Ways.{entry-some, cut-absent, cut-longer, cut-served}
 use Rattle.staging.proofs.cutting.cut_on.Goals as goal
@@ -18,7 +18,7 @@ overflow_mul-index c =
 pub returns-then-up_to : goal.returns-then-up_to
 returns-then-up_to c =
     cut-served c.args.session.now c.args.tape c.args.index c.seen_by-seen.result c.seen_by-seen.ensures c.get_handle-handle.result c.get_handle-handle.ensures c.if-seen.true (sym c.up_to.ensures ∙ c.if-up_to.true)
-    ∙ ap (λ (t : List ℕ). after (Done 0) t) (sym c.put_len.ensures)
+    ∙ ap (λ (t : List ℕ). after (Ok 0) t) (sym c.put_len.ensures)
 
 pub returns-then-seen : goal.returns-then-seen
 returns-then-seen c =

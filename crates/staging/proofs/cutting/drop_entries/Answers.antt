@@ -1,6 +1,6 @@
 -- `drop_entries` is `drop_call`: each way out is its law, and what was found lets `drop_on` be called. Assumes nothing.
+use Rattle.std.specs.Prelude.{Some}
 use Rattle.std.proofs.Common.{◌≡◌, sym, ◌∙◌, true}
-use Rattle.octets.specs.declared.Found.TheVariants.{At}
 use Rattle.session.specs.Rows.{find_handle}
 use Rattle.beginning.specs.Transactions.{usable}
 use Rattle.beginning.specs.Ways.{usable-begun}
@@ -30,16 +30,16 @@ pub drop_on-requires : goal.drop_on-requires
 drop_on-requires c =
     let ok : usable c.args.disk.now c.args.session.now ≡ true = sym c.is_usable.ensures ∙ c.if-is_usable.true in
     let begun = usable-begun c.args.disk.now c.args.session.now ok in
-    let held : find_handle c.args.session.now c.args.handle ≡ At c.in-At.tape = sym c.find_handle.ensures ∙ c.in-At.is in
-    let row = handle-found c.args.session.now c.args.handle c.in-At.tape held in
+    let held : find_handle c.args.session.now c.args.handle ≡ Some c.in-Some.tape = sym c.find_handle.ensures ∙ c.in-Some.is in
+    let row = handle-found c.args.session.now c.args.handle c.in-Some.tape held in
     (begun, (row.low, row.held))
 
 pub returns-then-is_cutting : goal.returns-then-is_cutting
 returns-then-is_cutting c =
     let ok : usable c.args.disk.now c.args.session.now ≡ true = sym c.is_usable.ensures ∙ c.if-is_usable.true in
     let there : cuts c.args.session.now c.args.transaction ≡ true = sym c.is_cutting.ensures ∙ c.if-is_cutting.true in
-    let held : find_handle c.args.session.now c.args.handle ≡ At c.in-At.tape = sym c.find_handle.ensures ∙ c.in-At.is in
-    drop-goes c.args.disk.now c.args.session.now c.args.transaction c.args.handle c.args.count ok there c.in-At.tape held ∙ c.drop_on.ensures
+    let held : find_handle c.args.session.now c.args.handle ≡ Some c.in-Some.tape = sym c.find_handle.ensures ∙ c.in-Some.is in
+    drop-goes c.args.disk.now c.args.session.now c.args.transaction c.args.handle c.args.count ok there c.in-Some.tape held ∙ c.drop_on.ensures
 
 pub returns-then-is_usable : goal.returns-then-is_usable
 returns-then-is_usable c =

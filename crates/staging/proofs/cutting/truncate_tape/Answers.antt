@@ -1,6 +1,6 @@
 -- `truncate_tape` is `cut_call`: each way out is its law, and what was found lets `cut_on` be called. Assumes nothing.
+use Rattle.std.specs.Prelude.{Some}
 use Rattle.std.proofs.Common.{◌≡◌, sym, ◌∙◌, true}
-use Rattle.octets.specs.declared.Found.TheVariants.{At}
 use Rattle.session.specs.Rows.{find_handle}
 use Rattle.beginning.specs.Transactions.{usable}
 use Rattle.beginning.specs.Ways.{usable-begun}
@@ -30,16 +30,16 @@ pub cut_on-requires : goal.cut_on-requires
 cut_on-requires c =
     let ok : usable c.args.disk.now c.args.session.now ≡ true = sym c.is_usable.ensures ∙ c.if-is_usable.true in
     let begun = usable-begun c.args.disk.now c.args.session.now ok in
-    let held : find_handle c.args.session.now c.args.handle ≡ At c.in-At.tape = sym c.find_handle.ensures ∙ c.in-At.is in
-    let row = handle-found c.args.session.now c.args.handle c.in-At.tape held in
+    let held : find_handle c.args.session.now c.args.handle ≡ Some c.in-Some.tape = sym c.find_handle.ensures ∙ c.in-Some.is in
+    let row = handle-found c.args.session.now c.args.handle c.in-Some.tape held in
     (begun, (row.low, row.held))
 
 pub returns-then-is_cutting : goal.returns-then-is_cutting
 returns-then-is_cutting c =
     let ok : usable c.args.disk.now c.args.session.now ≡ true = sym c.is_usable.ensures ∙ c.if-is_usable.true in
     let there : cuts c.args.session.now c.args.transaction ≡ true = sym c.is_cutting.ensures ∙ c.if-is_cutting.true in
-    let held : find_handle c.args.session.now c.args.handle ≡ At c.in-At.tape = sym c.find_handle.ensures ∙ c.in-At.is in
-    cut-goes c.args.disk.now c.args.session.now c.args.transaction c.args.handle c.args.len ok there c.in-At.tape held ∙ c.cut_on.ensures
+    let held : find_handle c.args.session.now c.args.handle ≡ Some c.in-Some.tape = sym c.find_handle.ensures ∙ c.in-Some.is in
+    cut-goes c.args.disk.now c.args.session.now c.args.transaction c.args.handle c.args.len ok there c.in-Some.tape held ∙ c.cut_on.ensures
 
 pub returns-then-is_usable : goal.returns-then-is_usable
 returns-then-is_usable c =

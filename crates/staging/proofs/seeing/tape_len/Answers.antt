@@ -1,6 +1,6 @@
 -- `tape_len` is `len_call`: each way out is its law, and what was found lets `len_on` be called. Assumes nothing.
+use Rattle.std.specs.Prelude.{Some}
 use Rattle.std.proofs.Common.{◌≡◌, sym, ◌∙◌, true}
-use Rattle.octets.specs.declared.Found.TheVariants.{At}
 use Rattle.session.specs.Rows.{find_transaction, find_handle}
 use Rattle.beginning.specs.Transactions.{usable}
 use Rattle.beginning.specs.Ways.{usable-begun}
@@ -27,24 +27,24 @@ find_handle-requires c =
 pub returns-in_default-find_handle : goal.returns-in_default-find_handle
 returns-in_default-find_handle c =
     let ok : usable c.args.disk.now c.args.session.now ≡ true = sym c.is_usable.ensures ∙ c.if-is_usable.true in
-    let there : find_transaction c.args.session.now c.args.transaction ≡ At c.in-At.place = sym c.find_transaction.ensures ∙ c.in-At.is in
-    sym (len-no-handle c.args.disk.now c.args.session.now c.args.transaction c.args.handle ok c.in-At.place there (sym c.find_handle.ensures ∙ c.in_default-find_handle.is))
+    let there : find_transaction c.args.session.now c.args.transaction ≡ Some c.in-Some.place = sym c.find_transaction.ensures ∙ c.in-Some.is in
+    sym (len-no-handle c.args.disk.now c.args.session.now c.args.transaction c.args.handle ok c.in-Some.place there (sym c.find_handle.ensures ∙ c.in_default-find_handle.is))
 
 pub len_on-requires : goal.len_on-requires
 len_on-requires c =
     let ok : usable c.args.disk.now c.args.session.now ≡ true = sym c.is_usable.ensures ∙ c.if-is_usable.true in
     let begun = usable-begun c.args.disk.now c.args.session.now ok in
-    let there : find_transaction c.args.session.now c.args.transaction ≡ At c.in-At.place = sym c.find_transaction.ensures ∙ c.in-At.is in
-    let held : find_handle c.args.session.now c.args.handle ≡ At c.in-At-find_handle.tape = sym c.find_handle.ensures ∙ c.in-At-find_handle.is in
-    let row = handle-found c.args.session.now c.args.handle c.in-At-find_handle.tape held in
-    ((begun, transaction-low c.args.session.now c.args.transaction c.in-At.place there), (row.low, row.held))
+    let there : find_transaction c.args.session.now c.args.transaction ≡ Some c.in-Some.place = sym c.find_transaction.ensures ∙ c.in-Some.is in
+    let held : find_handle c.args.session.now c.args.handle ≡ Some c.in-Some-find_handle.tape = sym c.find_handle.ensures ∙ c.in-Some-find_handle.is in
+    let row = handle-found c.args.session.now c.args.handle c.in-Some-find_handle.tape held in
+    ((begun, transaction-low c.args.session.now c.args.transaction c.in-Some.place there), (row.low, row.held))
 
 pub returns-then-is_usable : goal.returns-then-is_usable
 returns-then-is_usable c =
     let ok : usable c.args.disk.now c.args.session.now ≡ true = sym c.is_usable.ensures ∙ c.if-is_usable.true in
-    let there : find_transaction c.args.session.now c.args.transaction ≡ At c.in-At.place = sym c.find_transaction.ensures ∙ c.in-At.is in
-    let held : find_handle c.args.session.now c.args.handle ≡ At c.in-At-find_handle.tape = sym c.find_handle.ensures ∙ c.in-At-find_handle.is in
-    c.len_on.ensures ∙ sym (len-goes c.args.disk.now c.args.session.now c.args.transaction c.args.handle ok c.in-At.place there c.in-At-find_handle.tape held)
+    let there : find_transaction c.args.session.now c.args.transaction ≡ Some c.in-Some.place = sym c.find_transaction.ensures ∙ c.in-Some.is in
+    let held : find_handle c.args.session.now c.args.handle ≡ Some c.in-Some-find_handle.tape = sym c.find_handle.ensures ∙ c.in-Some-find_handle.is in
+    c.len_on.ensures ∙ sym (len-goes c.args.disk.now c.args.session.now c.args.transaction c.args.handle ok c.in-Some.place there c.in-Some-find_handle.tape held)
 
 pub returns : goal.returns
 returns c =

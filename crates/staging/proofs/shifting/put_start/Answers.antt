@@ -8,5 +8,5 @@ pub returns : goal.returns
 returns c =
     let row = c.touched_as-row.result in
     c.put_staged.ensures
-    ∙ ap (λ (n : ℕ). put_staged c.args.session.now c.args.tape (record { touched = true; base = row.base; len = row.len; start = n; unwritten = row.unwritten })) c.larger-larger.ensures
+    ∙ ap (λ (n : ℕ). put_staged c.args.session.now c.args.tape (record { touched = true; base = row.base; len = row.len; start = n; unwritten = row.unwritten })) c.max-larger.ensures
     ∙ shift-staged c.args.session.now c.args.tape row c.touched_as-row.ensures c.args.start
