@@ -1,6 +1,6 @@
 -- Laws of `format`: each way out, that its contract leaves nothing open, that a refused one changes nothing, and what a served one means: an empty disk,
 -- and no session. Assumes nothing.
-use Rattle.std.specs.Prelude.{◌≡◌, refl, ◌≢◌, true, false, List, ℕ, ◌≤◌, ◌<◌, length, None}
+use Rattle.std.specs.Prelude.{◌≡◌, refl, ◌≢◌, true, false, List, ℕ, ◌≤◌, ◌<◌, length, None, Ok, Err}
 use Rattle.std.proofs.Common.{sym, ap, subst, ◌∙◌, arith}
 use borrow.Author.Tests.{lt-ltb, le-ltb}
 use Rattle.octets.specs.Cases.{order}
@@ -13,32 +13,31 @@ use Rattle.disk.specs.MeaningLaws.{disk-formatted}
 use Rattle.session.specs.Begin.{ended}
 use Rattle.session.specs.Meaning.{running}
 use Rattle.session.specs.BeginLaws.{sound-ended, running-ended, none-ended}
-use Rattle.areas.specs.Format.{Outcome, outcome, format_step, code_of}
-use Rattle.areas.specs.declared.Formatted.{Formatted}
-use Rattle.areas.specs.declared.Formatted.TheVariants.{Done, BadSlotCount, TooSmall}
+use Rattle.areas.specs.Format.{Formatted, Outcome, outcome, format_step, code_of}
+use Rattle.areas.specs.declared.FormatError.TheVariants.{BadSlotCount, TooSmall}
 
 -- ---- each way out
 
 module _ (d s : List ℕ) (n : ℕ) where
-  pub no-slots : n < 1 → format_step d s n ≡ outcome BadSlotCount d s
+  pub no-slots : n < 1 → format_step d s n ≡ outcome (Err BadSlotCount) d s
   unfolding format_step
   no-slots h = rw (lt-ltb n 1 h)
 
-  pub many-slots : 64 < n → format_step d s n ≡ outcome BadSlotCount d s
+  pub many-slots : 64 < n → format_step d s n ≡ outcome (Err BadSlotCount) d s
   unfolding format_step
   many-slots h = rw (le-ltb n 1 (omega arith), lt-ltb 64 n h)
 
   module _ (some : 1 ≤ n) (few : n ≤ 64) where
-    pub small-disk : length d < data_at n → format_step d s n ≡ outcome TooSmall d s
+    pub small-disk : length d < data_at n → format_step d s n ≡ outcome (Err TooSmall) d s
     unfolding format_step
     small-disk h = rw (le-ltb n 1 some, le-ltb 64 n few, lt-ltb (length d) (data_at n) h)
 
     module _ (room : data_at n ≤ length d) where
-      pub small-session : length s < session_bytes → format_step d s n ≡ outcome TooSmall d s
+      pub small-session : length s < session_bytes → format_step d s n ≡ outcome (Err TooSmall) d s
       unfolding format_step
       small-session h = rw (le-ltb n 1 some, le-ltb 64 n few, le-ltb (length d) (data_at n) room, lt-ltb (length s) session_bytes h)
 
-      pub format-done : session_bytes ≤ length s → format_step d s n ≡ outcome Done (formatted d n) (ended s)
+      pub format-done : session_bytes ≤ length s → format_step d s n ≡ outcome (Ok tt) (formatted d n) (ended s)
       unfolding format_step
       format-done h = rw (le-ltb n 1 some, le-ltb 64 n few, le-ltb (length d) (data_at n) room, le-ltb (length s) session_bytes h)
 
@@ -54,8 +53,8 @@ format-unique d s n r r' d₁ d₂ s₁ s₂ e f =
 -- ---- what it means
 
 -- what holds of each way out holds of the step
-pub format-cases : (P : Outcome → Type 0) (d s : List ℕ) (n : ℕ) → P (outcome BadSlotCount d s) → P (outcome TooSmall d s)
-    → (1 ≤ n → n ≤ 64 → data_at n ≤ length d → session_bytes ≤ length s → P (outcome Done (formatted d n) (ended s))) → P (format_step d s n)
+pub format-cases : (P : Outcome → Type 0) (d s : List ℕ) (n : ℕ) → P (outcome (Err BadSlotCount) d s) → P (outcome (Err TooSmall) d s)
+    → (1 ≤ n → n ≤ 64 → data_at n ≤ length d → session_bytes ≤ length s → P (outcome (Ok tt) (formatted d n) (ended s))) → P (format_step d s n)
 format-cases P d s n bad small done =
     order n 1
     (λ (l : n < 1). subst P (sym (no-slots d s n l)) bad)

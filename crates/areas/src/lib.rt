@@ -9,9 +9,9 @@ ghost use Rattle.areas.specs.Format.{format_step, outcome};
 
 use layout::{Disk, Session};
 
-#[derive(Clone, Copy)]
-pub enum Formatted {
-    Done,
+// Why no disk is made; both areas are as they were.
+#[derive(Clone, Copy, Debug, PartialEq, Eq)]
+pub enum FormatError {
     // The slot count is not 1 to 64.
     BadSlotCount,
     // An area is too small.
@@ -19,23 +19,23 @@ pub enum Formatted {
 }
 
 // Makes an empty disk and ends the session.
-pub fn format(disk: &mut [u8], session: &mut [u8], slots: u64) -> Formatted
+pub fn format(disk: &mut [u8], session: &mut [u8], slots: u64) -> Result<(), FormatError>
     ensures { format_step disk.old session.old slots ≡ outcome result disk.new session.new }
 {
     if slots < 1 {
-        return Formatted::BadSlotCount;
+        return Err(FormatError::BadSlotCount);
     }
     if (Disk::MOST_SLOTS as u64) < slots {
-        return Formatted::BadSlotCount;
+        return Err(FormatError::BadSlotCount);
     }
     let count = slots as usize;
     if disk.len() < layout::disk_bytes(count) {
-        return Formatted::TooSmall;
+        return Err(FormatError::TooSmall);
     }
     if session.len() < Session::BYTES {
-        return Formatted::TooSmall;
+        return Err(FormatError::TooSmall);
     }
     disk::format(disk, count);
     session::end(session);
-    Formatted::Done
+    Ok(())
 }

@@ -1,6 +1,6 @@
 -- What later work builds on. The contracts leave nothing open; a refused call changes nothing; what a call makes of areas that keep their rules keeps them;
 -- and what a served call means. Assumes nothing.
-use Rattle.std.specs.Prelude.{◌≡◌, refl, ◌≢◌, true, false, ◌&&◌, List, ℕ, ◌+◌, ◌≤◌, ◌<◌, ◌^◌, ltb, Option, Some, None, Ok}
+use Rattle.std.specs.Prelude.{◌≡◌, refl, ◌≢◌, true, false, ◌&&◌, List, ℕ, ◌+◌, ◌≤◌, ◌<◌, ◌^◌, ltb, Option, Some, None, Ok, Err}
 use Rattle.std.proofs.Common.{sym, subst, ◌∙◌, arith}
 use Rattle.std.proofs.Math.Path.{ap}
 use Rattle.std.proofs.Math.ListN.{length}
@@ -15,8 +15,8 @@ use Rattle.areas.specs.Format as A
 use Rattle.answers.specs.Outcome.{Outcome, outcome}
 use Rattle.areas.specs.Format.{format_step}
 use Rattle.areas.specs.FormatLaws.{Served, served, refused-same}
-use Rattle.areas.specs.declared.Formatted.{Formatted}
-use Rattle.areas.specs.declared.Formatted.TheVariants as F
+use Rattle.areas.specs.Format.{Formatted}
+use Rattle.areas.specs.declared.FormatError.TheVariants.{BadSlotCount, TooSmall}
 use Rattle.layout.specs.Session.{session_bytes, head_at, Begun, begun}
 use Rattle.layout.specs.SessionLaws.{begun→, →begun}
 use Rattle.session.specs.declared.head.Head.{Head}
@@ -86,9 +86,9 @@ refusal-some TooLarge e = omega arith
 
 -- the numbers are those of `areas`
 format-code : (a : Formatted) → code_of (answered a) ≡ A.code_of a
-format-code F.Done = refl
-format-code F.BadSlotCount = refl
-format-code F.TooSmall = refl
+format-code (Ok _) = refl
+format-code (Err BadSlotCount) = refl
+format-code (Err TooSmall) = refl
 
 module _ (d s : List ℕ) (n : ℕ) where
   pub format-refused : code_of (format_call d s n).answer ≢ 0 → ((format_call d s n).disk ≡ d) × ((format_call d s n).session ≡ s)
@@ -96,7 +96,7 @@ module _ (d s : List ℕ) (n : ℕ) where
   format-refused r = refused-same d s n (λ e. r (format-code (format_step d s n).answer ∙ e))
 
   -- an empty disk, and a session area that holds no session; both keep their rules
-  pub format-served : code_of (format_call d s n).answer ≡ 0 → Served n (A.outcome F.Done (format_call d s n).disk (format_call d s n).session)
+  pub format-served : code_of (format_call d s n).answer ≡ 0 → Served n (A.outcome (Ok tt) (format_call d s n).disk (format_call d s n).session)
   unfolding format_call
   format-served e =
       let m = served d s n (sym (format-code (format_step d s n).answer) ∙ e) in

@@ -8,7 +8,7 @@ use Rattle.answers.specs.declared.Refusal.TheVariants.{Unusable, WriterOpen, Wai
 use Rattle.answers.specs.Outcome.{outcome}
 use Rattle.areas.specs.Format.{format_step}
 use Rattle.areas.specs.Format as Step
-use Rattle.areas.specs.declared.Formatted.{Formatted}
+use Rattle.areas.specs.Format.{Formatted}
 use Rattle.metadata.specs.Decoding.{Listing, tapes, unreadable}
 use Rattle.metadata.specs.Choice.{chosen, next_side, chosen_epoch, chosen_list}
 use Rattle.metadata.specs.declared.choice.Side.{Side}

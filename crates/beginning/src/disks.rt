@@ -4,16 +4,15 @@ ghost use Rattle.answers.specs.Outcome.{outcome};
 ghost use Rattle.beginning.specs.Disks.{format_call};
 
 use answers::Refusal;
-use areas::Formatted;
+use areas::FormatError;
 
 // Makes an empty disk of so many slots and ends the session. Refused: 8, then 1.
 pub fn format(disk: &mut [u8], session: &mut [u8], slots: u64) -> Result<u64, Refusal>
     ensures { format_call disk.old session.old slots ≡ outcome result disk.new session.new }
 {
-    let formatted = areas::format(disk, session, slots);
-    match formatted {
-        Formatted::Done => Ok(0),
-        Formatted::BadSlotCount => Err(Refusal::BadSize),
-        Formatted::TooSmall => Err(Refusal::Unusable),
+    match areas::format(disk, session, slots) {
+        Ok(()) => Ok(0),
+        Err(FormatError::BadSlotCount) => Err(Refusal::BadSize),
+        Err(FormatError::TooSmall) => Err(Refusal::Unusable),
     }
 }

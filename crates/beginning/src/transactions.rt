@@ -47,13 +47,9 @@ pub fn waiting_for(session: &[u8], epoch: u64) -> u64
     requires { session_bytes ≤ length session.now }
     ensures { result ≡ waiting_for session.now epoch }
 {
-    let mut found = 0;
-    for i in 0..Session::MOST_READERS {
-        if is_older(session, i, epoch) {
-            found += 1;
-        }
-    }
-    found
+    octets::count(0, Session::MOST_READERS, |place| {
+        is_older(session, place, epoch)
+    }) as u64
 }
 
 // A transaction begun in a place that is free: it gets the next number, the present epoch and the list

@@ -5,7 +5,7 @@
 
 ghost use Rattle.std.specs.Prelude.{◌+◌, ◌≤◌};
 
-use areas::Formatted;
+use areas::FormatError;
 use layout::{Disk, Session};
 use metadata::{Side, TapeList};
 use ring_buffer::RingBuffer;
@@ -201,9 +201,9 @@ fn asked(
 ) -> io::Result<()> {
     say(rt, label)?;
     match areas::format(disk, session, slots) {
-        Formatted::Done => say(rt, b": done\n"),
-        Formatted::BadSlotCount => say(rt, b": 8\n"),
-        Formatted::TooSmall => say(rt, b": 1\n"),
+        Ok(()) => say(rt, b": done\n"),
+        Err(FormatError::BadSlotCount) => say(rt, b": 8\n"),
+        Err(FormatError::TooSmall) => say(rt, b": 1\n"),
     }
 }
 

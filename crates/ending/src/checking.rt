@@ -32,12 +32,9 @@ fn all_there(disk: &[u8], session: &[u8]) -> bool
     requires { Sound disk.now × Begun session.now }
     ensures { result ≡ all_there disk.now session.now }
 {
-    for i in 0..Session::MOST_TAPES {
-        if !has_directory(disk, session, i) {
-            return false;
-        }
-    }
-    true
+    octets::all(0, Session::MOST_TAPES, |tape| {
+        has_directory(disk, session, tape)
+    })
 }
 
 // How many tapes are published.
@@ -45,14 +42,9 @@ fn count_published(session: &[u8], cut: bool) -> usize
     requires { Begun session.now }
     ensures { result ≡ count (is_published session.now cut) 8 0 }
 {
-    let mut found = 0;
-    for i in 0..Session::MOST_TAPES {
-        let view = published_view(session, cut, i);
-        if view.listed {
-            found += 1;
-        }
-    }
-    found
+    octets::count(0, Session::MOST_TAPES, |tape| {
+        published_view(session, cut, tape).listed
+    })
 }
 
 // Whether the list has every tape that is published, and may be stored.

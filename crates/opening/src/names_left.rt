@@ -78,26 +78,14 @@ fn count_directories(disk: &[u8]) -> usize
     requires { Sound disk.now }
     ensures { result ≡ count (is_named disk.now directories) 8 0 }
 {
-    let mut found = 0;
-    for i in 0..8 {
-        if is_directory(disk, i) {
-            found += 1;
-        }
-    }
-    found
+    octets::count(0, 8, |place| is_directory(disk, place))
 }
 
 fn count_listed_alone(disk: &[u8], session: &[u8]) -> usize
     requires { Sound disk.now × Begun session.now }
     ensures { result ≡ count (is_listed_alone disk.now session.now) 8 0 }
 {
-    let mut found = 0;
-    for i in 0..8 {
-        if is_listed_alone(disk, session, i) {
-            found += 1;
-        }
-    }
-    found
+    octets::count(0, 8, |tape| is_listed_alone(disk, session, tape))
 }
 
 fn names_used(disk: &[u8], session: &[u8]) -> usize

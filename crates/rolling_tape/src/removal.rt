@@ -36,13 +36,9 @@ fn clear_below(disk: &[u8], session: &[u8], place: usize, oldest: u64, number: u
     requires { (Sound disk.now × (session_bytes ≤ length session.now)) × (place < 8) }
     ensures { result ≡ clear_below disk.now session.now place oldest number }
 {
-    let count = disk::slot_count(disk);
-    for i in 0..count {
-        if stops_below(disk, session, place, oldest, number, i) {
-            return false;
-        }
-    }
-    true
+    octets::all(0, disk::slot_count(disk), |slot| {
+        !stops_below(disk, session, place, oldest, number, slot)
+    })
 }
 
 // Whether the file of a slot goes.

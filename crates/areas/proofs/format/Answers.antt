@@ -5,7 +5,7 @@ use Rattle.disk.specs.Steps.{formatted}
 use Rattle.session.specs.Begin.{ended}
 use Rattle.areas.specs.Format.{outcome}
 use Rattle.areas.specs.FormatLaws.{no-slots, many-slots, small-disk, small-session, format-done}
-use Rattle.areas.specs.declared.Formatted.TheVariants.{Done}
+use Rattle.std.specs.Prelude.{Ok}
 use Rattle.areas.proofs.format.Goals as goal
 
 pub returns-then-slots-lt1 : goal.returns-then-slots-lt1
@@ -34,5 +34,5 @@ returns c =
     let made : c.format.new.disk ≡ formatted d c.args.slots = c.format.ensures in
     let gone : c.end.new.session ≡ ended s = c.end.ensures in
     format-done d s c.args.slots (omega arith) (omega arith) room (omega arith)
-    ∙ ap (λ (x : List ℕ). outcome Done x (ended s)) (sym made)
-    ∙ ap (λ (x : List ℕ). outcome Done c.format.new.disk x) (sym gone)
+    ∙ ap (λ (x : List ℕ). outcome (Ok tt) x (ended s)) (sym made)
+    ∙ ap (λ (x : List ℕ). outcome (Ok tt) c.format.new.disk x) (sym gone)
