@@ -52,7 +52,7 @@ module _ (d s : List ℕ) (t h : ℕ) (out : List ℕ) (u v : List ℕ) where
 pub exists-unique : (d s : List ℕ) (t : ℕ) (wanted : List ℕ) (r r' : Answer) → r ≡ exists_call d s t wanted → r' ≡ exists_call d s t wanted → r ≡ r'
 exists-unique d s t wanted r r' e f = e ∙ sym f
 
-entry-some : (i : ℕ) → Ok (Some i) ≢ (Ok None)
+entry-some : (i : ℕ) → ◌≢◌ {A = OneEntry} (Ok (Some i)) (Ok None)
 entry-some i e = let z : ◌≡◌ {A = ℕ} 0 1 = cc in omega arith
 
 -- ---- a read of one that is refused has no entry
@@ -86,7 +86,7 @@ refusal-back TooLarge = refl
 none-entry : (why : Refusal) (i : ℕ) → none_for why ≢ Ok (Some i)
 none-entry why i e =
     let first : why ≡ Unusable = sym (refusal-back why) ∙ ap refusal_of e in
-    let same : Err Unusable ≡ Ok (Some i) = sym (ap none_for first) ∙ e in
+    let same : ◌≡◌ {A = OneEntry} (Err Unusable) (Ok (Some i)) = sym (ap none_for first) ∙ e in
     let z : ◌≡◌ {A = ℕ} 0 1 = cc in
     omega arith
 
