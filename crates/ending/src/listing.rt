@@ -127,7 +127,7 @@ pub fn next_list(session: &[u8], cut: bool) -> TapeList
         tapes[i] = before;
     }
     TapeList {
-        count: i,
-        tapes: tapes,
+        count: TapeList::MOST_NAMES,
+        tapes,
     }
 }

@@ -81,4 +81,6 @@ loop-i-preserved c =
 
 pub returns : goal.returns
 returns c =
-    whole c.loop-i.invariant (list-end _ _ _ _ (omega arith))
+    let all : c.loop-i.i ≡ 8 = omega arith in
+    let w = whole c.loop-i.invariant (list-end _ _ _ _ (omega arith)) in
+    rw all at w

@@ -1,5 +1,5 @@
 -- `open` is `open_call`: each way out is its law, and what was found lets the rest be called. Assumes nothing.
-use Rattle.std.specs.Prelude.{Option}
+use Rattle.std.specs.Prelude.{Option, ℕ}
 use Rattle.std.proofs.Common.{◌≡◌, sym, ap, ◌∙◌, true}
 use Rattle.layout.specs.Names.{find_name}
 use Rattle.layout.specs.Session.{names_at}

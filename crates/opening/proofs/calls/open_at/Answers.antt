@@ -1,5 +1,5 @@
 -- `open_at` is `open_at`: each way out is a law's, and places that are found are below 8. Assumes nothing.
-use Rattle.std.specs.Prelude.{Option, Some}
+use Rattle.std.specs.Prelude.{Option, Some, ℕ}
 use Rattle.std.proofs.Common.{◌≡◌, sym, ap, ◌∙◌, false}
 use Rattle.layout.specs.Disk.{directories}
 use Rattle.layout.specs.Names.{find_name}
