@@ -1,11 +1,10 @@
 -- What a served open does to what is seen: of its tape what `lives` says, of every other tape nothing; its tape has the next handle's number, and the areas
 -- stay in order. Assumes nothing.
-use Rattle.std.specs.Prelude.{◌≡◌, ◌≢◌, true, List, [], ℕ, ◌+◌, ◌<◌, ◌^◌, length, Option, Some, None}
+use Rattle.std.specs.Prelude.{◌≡◌, ◌≢◌, true, List, [], ℕ, ◌+◌, ◌<◌, ◌^◌, length, Option, Some, None, Ok}
 use Rattle.std.proofs.Common.{sym, subst, ◌∙◌, arith}
 use Rattle.std.proofs.Math.Path.{ap}
 use Rattle.octets.specs.Number.{Bytes}
 use Rattle.answers.specs.Answers.{code_of}
-use Rattle.answers.specs.declared.Answer.TheVariants as A
 use Rattle.metadata.specs.declared.choice.Side.{Side}
 use Rattle.metadata.specs.declared.choice.Side.TheVariants.{Left, Right}
 use Rattle.layout.specs.NamesLaws.{name-low}
@@ -102,7 +101,7 @@ module _ (d s : List ℕ) (t : ℕ) (wanted : List ℕ) (entry fs cache start : 
   sv = open-served d s t wanted entry fs cache start orderly new small served
 
   -- its answer is the next handle's number
-  pub open-answers : (open_call d s t wanted entry fs cache start).answer ≡ A.Done ((head_of s).last_handle + 1)
+  pub open-answers : (open_call d s t wanted entry fs cache start).answer ≡ Ok ((head_of s).last_handle + 1)
   open-answers = open-answer d s t wanted entry fs cache start orderly new small served
 
   pub open-orderly : Orderly after_disk after_session
@@ -148,5 +147,5 @@ module _ (d s : List ℕ) (t : ℕ) (wanted : List ℕ) (entry fs cache start : 
           subst (λ (a : After). Seen after_disk after_session wanted a.store) (sym steps)
           (own-seen d s t wanted entry fs cache start after_disk after_session orderly sv st seen)
 
-      pub open-steps : (step (open' t fs cache start (open_memory s wanted)) st).answer ≡ Ok 1
+      pub open-steps : (step (open' t fs cache start (open_memory s wanted)) st).answer ≡ Done 1
       open-steps = ap (λ (a : After). a.answer) steps

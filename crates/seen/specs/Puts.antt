@@ -1,6 +1,6 @@
 -- `append_entries` is the model's `put`: of the handle's tape the staged record, the cache and the files change as the model says, and of every other tape
 -- nothing is seen to change. Assumes nothing.
-use Rattle.std.specs.Prelude.{◌≡◌, ◌≢◌, Bool, true, List, ℕ, ◌+◌, ◌/◌, ◌≤◌, ◌<◌, ◌^◌, Option, Some, None}
+use Rattle.std.specs.Prelude.{◌≡◌, ◌≢◌, Bool, true, List, ℕ, ◌+◌, ◌/◌, ◌≤◌, ◌<◌, ◌^◌, Option, Some, None, Ok}
 use Rattle.std.proofs.Math.Path.{refl}
 use Rattle.std.proofs.Common.{sym, ap, ◌∙◌, subst}
 use native.Mathlib.Omega.{arith}
@@ -9,7 +9,6 @@ use Rattle.std.proofs.Math.ListN.{length}
 use Rattle.octets.specs.Number.{Bytes}
 use Rattle.answers.specs.Answers.{code_of}
 use Rattle.answers.specs.Outcome.{Outcome}
-use Rattle.answers.specs.declared.Answer.TheVariants as Real
 use Rattle.components.specs.Pieces.{file_of}
 use Rattle.components.specs.Slots.{lacking_from, covered}
 use Rattle.layout.specs.Names.{name, find_name}
@@ -55,7 +54,7 @@ use Rattle.joins.proofs.Ranges.{lacking-last}
 -- ---- the model's
 
 model-put : (st : Store) (k began len start : ℕ) (bs : List ℕ) → st.writer ≡ appending k began true len start → st.live ≡ true → len + length bs ≤ 0xffff_ffff_ffff_ffff
-    → step (put k bs) st ≡ then (Ok len) st.last st st.readers (appending k began true (len + length bs) start) true st.live (put_held st.size len st.held bs)
+    → step (put k bs) st ≡ then (Done len) st.last st st.readers (appending k began true (len + length bs) start) true st.live (put_held st.size len st.held bs)
 unfolding step
 model-put st k began len start bs writer live fits = rw (writer, eq-eqb k k refl, live, le-ltb 0xffff_ffff_ffff_ffff (len + length bs) fits)
 
@@ -221,7 +220,7 @@ module _ (d s : List ℕ) (o : Orderly d s) (k h : ℕ) (bs : List ℕ) (bytes :
         = rw ((its-rows d s n o p at held st seen).size, same-held) in
         subst (λ (a : After). Leads e u n a (staged_len st.writer)) (sym goes)
         (record {
-          answer = sym (ap (λ (w : Writer). Ok (staged_len w)) is-writer);
+          answer = sym (ap (λ (w : Writer). Done (staged_len w)) is-writer);
           seen = subst (λ (w : Writer). Seen e u n (staged st w (put_held st.size row.len st.held bs))) is
               (subst (λ (x : Held). Seen e u n (staged st (writer_with s new) x)) holds
               (seen-touching d s e u n p new (put_held (file_size_of s p) row.len (held_at before place p row.unwritten) bs) touching st
@@ -272,5 +271,5 @@ module _ (d s : List ℕ) (o : Orderly d s) (k h : ℕ) (bs : List ℕ) (bytes :
   put-own = rw put_is (put_in-own d s o k h bs bytes found.tape found.place found.goes put-inside n own.0 (build t x) seen)
 
   -- "Append returns the staged length before it", in entries
-  pub put-value : (put_call d s k h bs).answer ≡ Real.Done (staged_len (build t x).writer / entry)
+  pub put-value : (put_call d s k h bs).answer ≡ Ok (staged_len (build t x).writer / entry)
   put-value = ap (λ (a : Outcome). a.answer) put_is ∙ rw (ap staged_len its-writer, own.1)

@@ -356,7 +356,7 @@ module _ (d s n : List ℕ) (letters : 0 < length n) (o : Orderly d s) (t : Told
             sound = ok;
             writer = cut-sees.writer;
             found = tape.found;
-            Some = λ z. omega arith;
+            some = λ z. omega arith;
             inside = subst (λ (m : ℕ). Inside d s 16 w m 1 out) (sym its-last) on;
           })
           ∙ ap (λ (m : ℕ). popping (Ok (Some m)) (cut_to s w (m * entry_size_of s w)) (filled d s w m 1 out)) its-last

@@ -37,7 +37,7 @@ loop-i-preserved c =
       omega arith,
       (
         sym (digits_step s c.loop-i.i more digit) ∙ c.loop-i.invariant.1.0,
-        ap (λ (d : ℕ). value_from (c.loop-i.n * 10 + d) (drop (c.loop-i.i + 1) s)) c.wide-d.ensures.0 ∙ sym (value-step s c.loop-i.i more c.loop-i.n) ∙ c.loop-i.invariant.1.1,
+        ap (λ (d : ℕ). value_from (c.loop-i.n * 10 + d) (drop (c.loop-i.i + 1) s)) c.from-d.ensures ∙ sym (value-step s c.loop-i.i more c.loop-i.n) ∙ c.loop-i.invariant.1.1,
       ),
     )
 
