@@ -11,7 +11,13 @@ use answers::Refusal;
 use layout::Session;
 
 // The bytes put, into files of the tape's directory.
-fn put_on(disk: &mut [u8], session: &mut [u8], tape: usize, place: usize, src: &[u8]) -> Result<u64, Refusal>
+fn put_on(
+    disk: &mut [u8],
+    session: &mut [u8],
+    tape: usize,
+    place: usize,
+    src: &[u8],
+) -> Result<u64, Refusal>
     requires { ((Sound disk.old × Begun session.old) × ((place < 8) × (tape < 8))) × ((handle_number session.old tape ≢ 0) × ((touched_as session.old tape).len + length src.now < 2 ^ 64)) }
     ensures { put_on disk.old session.old tape place src.now ≡ outcome result disk.new session.new }
 {

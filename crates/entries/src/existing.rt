@@ -21,7 +21,12 @@ fn is_seen(session: &[u8], name: &[u8]) -> bool
 }
 
 // Answers 1 if the append sees a tape of this name, else 0. Refused: 1, 2.
-pub fn tape_exists(disk: &[u8], session: &[u8], transaction: u64, name: &[u8]) -> Result<u64, Refusal>
+pub fn tape_exists(
+    disk: &[u8],
+    session: &[u8],
+    transaction: u64,
+    name: &[u8],
+) -> Result<u64, Refusal>
     ensures { result ≡ exists_call disk.now session.now transaction name.now }
 {
     if beginning::is_usable(disk, session) {

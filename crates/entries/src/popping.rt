@@ -10,7 +10,13 @@ use answers::Refusal;
 use layout::Session;
 
 // The entry of an index, read and cut off with all behind it.
-fn pop_at(disk: &[u8], session: &mut [u8], tape: usize, index: u64, out: &mut [u8]) -> Result<Option<u64>, Refusal>
+fn pop_at(
+    disk: &[u8],
+    session: &mut [u8],
+    tape: usize,
+    index: u64,
+    out: &mut [u8],
+) -> Result<Option<u64>, Refusal>
     requires { (Sound disk.now × Begun session.old) × (((tape < 8) × (handle_number session.old tape ≢ 0)) × (index * entry_size_of session.old tape < 2 ^ 64)) }
     ensures { pop_at disk.now session.old tape index out.old ≡ popping result session.new out.new }
 {
@@ -25,7 +31,12 @@ fn pop_at(disk: &[u8], session: &mut [u8], tape: usize, index: u64, out: &mut [u
     }
 }
 
-fn pop_on(disk: &[u8], session: &mut [u8], tape: usize, out: &mut [u8]) -> Result<Option<u64>, Refusal>
+fn pop_on(
+    disk: &[u8],
+    session: &mut [u8],
+    tape: usize,
+    out: &mut [u8],
+) -> Result<Option<u64>, Refusal>
     requires { (Sound disk.now × Begun session.old) × ((tape < 8) × (handle_number session.old tape ≢ 0)) }
     ensures { pop_on disk.now session.old tape out.old ≡ popping result session.new out.new }
 {

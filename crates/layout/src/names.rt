@@ -5,7 +5,6 @@ ghost use Rattle.octets.specs.First.{all};
 ghost use Rattle.octets.specs.Compare.{same_bytes};
 ghost use Rattle.layout.specs.Names.{NamesFit, name_fits, name, find_name, put_name};
 
-
 // How many bytes a place takes, and how many its name may have.
 const PLACE_BYTES: usize = 32;
 

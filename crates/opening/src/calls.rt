@@ -90,7 +90,13 @@ fn place_for(session: &[u8], tape: Option<usize>) -> Option<usize>
     }
 }
 
-fn open_at(disk: &mut [u8], session: &mut [u8], name: &[u8], o: Opening, tape: Option<usize>) -> Result<u64, Refusal>
+fn open_at(
+    disk: &mut [u8],
+    session: &mut [u8],
+    name: &[u8],
+    o: Opening,
+    tape: Option<usize>,
+) -> Result<u64, Refusal>
     requires { ((Sound disk.old × Begun session.old) × ((p : ℕ) → tape ≡ Some p → p < 8)) × ((length name.now ≤ 24) × (((0 < o.file_size) × (o.file_size ≤ 4096)) × (o.cache ≤ 4096))) }
     ensures { open_at disk.old session.old name.now o tape ≡ outcome result disk.new session.new }
 {
@@ -104,7 +110,13 @@ fn open_at(disk: &mut [u8], session: &mut [u8], name: &[u8], o: Opening, tape: O
     open_in(disk, session, name, o, directory, p)
 }
 
-fn open_on(disk: &mut [u8], session: &mut [u8], name: &[u8], o: Opening, tape: Option<usize>) -> Result<u64, Refusal>
+fn open_on(
+    disk: &mut [u8],
+    session: &mut [u8],
+    name: &[u8],
+    o: Opening,
+    tape: Option<usize>,
+) -> Result<u64, Refusal>
     requires { (Sound disk.old × Begun session.old) × ((p : ℕ) → tape ≡ Some p → p < 8) }
     ensures { open_on disk.old session.old name.now o tape ≡ outcome result disk.new session.new }
 {

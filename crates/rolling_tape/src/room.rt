@@ -4,7 +4,6 @@ ghost use Rattle.components.specs.Slots.{lacking_from};
 ghost use Rattle.layout.specs.Disk.{Sound};
 ghost use Rattle.rolling_tape.specs.Room.{on_disk};
 
-
 // Whether a directory has the file of a number.
 pub fn has_file(disk: &[u8], place: usize, number: u64) -> bool
     requires { Sound disk.now × (place < 8) }

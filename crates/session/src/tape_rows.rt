@@ -157,5 +157,9 @@ pub fn find_handle(session: &[u8], number: u64) -> Option<usize>
     requires { session_bytes ≤ length session.now }
     ensures { result ≡ find_handle session.now number }
 {
-    octets::first(0, Session::MOST_TAPES, |tape| is_handle(session, tape, number))
+    octets::first(
+        0,
+        Session::MOST_TAPES,
+        |tape| is_handle(session, tape, number),
+    )
 }

@@ -100,7 +100,11 @@ pub fn find_transaction(session: &[u8], number: u64) -> Option<usize>
     requires { session_bytes ≤ length session.now }
     ensures { result ≡ find_transaction session.now number }
 {
-    octets::first(0, Session::WRITER + 1, |place| is_open_as(session, place, number))
+    octets::first(
+        0,
+        Session::WRITER + 1,
+        |place| is_open_as(session, place, number),
+    )
 }
 
 fn is_closed(session: &[u8], place: usize) -> bool

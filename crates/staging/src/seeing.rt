@@ -141,7 +141,12 @@ pub fn tape_len(disk: &[u8], session: &[u8], transaction: u64, handle: u64) -> R
 }
 
 // A tape's start, in entries. Refused: 1, 2, 11.
-pub fn tape_start(disk: &[u8], session: &[u8], transaction: u64, handle: u64) -> Result<u64, Refusal>
+pub fn tape_start(
+    disk: &[u8],
+    session: &[u8],
+    transaction: u64,
+    handle: u64,
+) -> Result<u64, Refusal>
     ensures { result ≡ start_call disk.now session.now transaction handle }
 {
     if beginning::is_usable(disk, session) {

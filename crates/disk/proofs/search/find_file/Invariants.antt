@@ -10,4 +10,3 @@ invariant-loop-slot l = (l.slot ≤ l.count) × (first (is_file l.disk l.place l
 
 abbrev pub invariant-loop-place : goal.invariant-loop-place
 invariant-loop-place l = (l.place ≤ 8) × (within l.disk l.number (first (named l.disk l.name) (8 - l.place) l.place) ≡ find_file l.disk l.name l.number)
-

@@ -16,12 +16,13 @@ is_next-requires c =
 pub loop-i-preserved : goal.loop-i-preserved
 loop-i-preserved c =
     elim c.if-is_next.branch [
-    then-is_next w ↦
-        let turn = next-hit c.args.session.now c.args.cut c.args.before.now c.loop-i.best c.loop-i.i (omega arith) (sym c.is_next.ensures ∙ w.if-is_next.true) in
-        rw w.best-is (omega arith, ((λ (p : ℕ) (e : Some c.loop-i.i ≡ Some p). let same : c.loop-i.i ≡ p = cc in omega arith), sym turn ∙ c.loop-i.invariant.1.1))
-    | else-is_next w ↦
-        let turn = next-miss c.args.session.now c.args.cut c.args.before.now c.loop-i.best c.loop-i.i (omega arith) (sym c.is_next.ensures ∙ w.if-is_next.false) in
-        rw w.best-is (omega arith, (c.loop-i.invariant.1.0, sym turn ∙ c.loop-i.invariant.1.1)) ]
+      | then-is_next w ↦
+          let turn = next-hit c.args.session.now c.args.cut c.args.before.now c.loop-i.best c.loop-i.i (omega arith) (sym c.is_next.ensures ∙ w.if-is_next.true) in
+          rw w.best-is (omega arith, ((λ (p : ℕ) (e : Some c.loop-i.i ≡ Some p). let same : c.loop-i.i ≡ p = cc in omega arith), sym turn ∙ c.loop-i.invariant.1.1))
+      | else-is_next w ↦
+          let turn = next-miss c.args.session.now c.args.cut c.args.before.now c.loop-i.best c.loop-i.i (omega arith) (sym c.is_next.ensures ∙ w.if-is_next.false) in
+          rw w.best-is (omega arith, (c.loop-i.invariant.1.0, sym turn ∙ c.loop-i.invariant.1.1))
+    ]
 
 pub returns : goal.returns
 returns c =

@@ -17,16 +17,17 @@ pub loop-done-preserved : goal.loop-done-preserved
 loop-done-preserved c =
     let whole = c.loop-done.invariant.rest in
     elim c.if-not-has_file.branch [
-    then-not-has_file w ↦
-        let gone = sym c.has_file.ensures ∙ w.if-not-has_file.true in
-        let turn = lacking-miss (on_disk c.args.disk.now c.args.place) c.args.first c.args.count c.loop-done.done (omega arith) gone in
-        let now = w.lacking-is in
-        record { within = omega arith; few = omega arith; rest = omega arith }
-    | else-not-has_file w ↦
-        let there = sym c.has_file.ensures ∙ w.if-not-has_file.false in
-        let turn = lacking-hit (on_disk c.args.disk.now c.args.place) c.args.first c.args.count c.loop-done.done (omega arith) there in
-        let now = w.lacking-is in
-        record { within = omega arith; few = omega arith; rest = omega arith } ]
+      | then-not-has_file w ↦
+          let gone = sym c.has_file.ensures ∙ w.if-not-has_file.true in
+          let turn = lacking-miss (on_disk c.args.disk.now c.args.place) c.args.first c.args.count c.loop-done.done (omega arith) gone in
+          let now = w.lacking-is in
+          record { within = omega arith; few = omega arith; rest = omega arith }
+      | else-not-has_file w ↦
+          let there = sym c.has_file.ensures ∙ w.if-not-has_file.false in
+          let turn = lacking-hit (on_disk c.args.disk.now c.args.place) c.args.first c.args.count c.loop-done.done (omega arith) there in
+          let now = w.lacking-is in
+          record { within = omega arith; few = omega arith; rest = omega arith }
+    ]
 
 pub returns : goal.returns
 returns c =
