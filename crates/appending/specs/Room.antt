@@ -40,6 +40,11 @@ unfoldable pub lacking_all : List ℕ → List ℕ → ℕ → ℕ → ℕ → �
 lacking_all d s to more zero p = 0
 lacking_all d s to more (suc n) p = lacking_of d s to more p + lacking_all d s to more n (p + 1)
 
--- 15 is given; 8 stands for no tape that is appended to
+-- the tape that is appended to: 8 stands for none
+abbrev pub place_of : Option ℕ → ℕ
+place_of (Some p) = p
+place_of None = 8
+
+-- 15 is given
 unfoldable pub no_room : List ℕ → List ℕ → ℕ → ℕ → Bool
 no_room d s to more = ltb (slots d) (files d + lacking_all d s to more 8 0)

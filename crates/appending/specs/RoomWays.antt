@@ -1,5 +1,6 @@
 -- The ways out of the functions of the rule of 15, the turns of its loop, and why counting up to 65 for each tape is enough. Assumes nothing.
-use Rattle.std.specs.Prelude.{◌≡◌, ◌≢◌, true, false, not, cond, ◌||◌, List, eqb, ltb, Option, Some, None}
+use Rattle.std.specs.Prelude.{◌≡◌, refl, ◌≢◌, true, false, not, cond, ◌||◌, List, eqb, ltb, Option, Some, None}
+use Rattle.std.specs.Option.{option_eq}
 use Rattle.std.proofs.Common.{sym, ap, ◌∙◌, true≢false, div-le_self, lt-ltb, le-ltb, eq-eqb, ne_eqb}
 use Prim.Native.Nat.{ℕ, suc, ◌+◌, ◌-◌, ◌≤◌, ◌<◌, ◌^◌, min}
 use native.Mathlib.Omega.{arith}
@@ -19,7 +20,7 @@ use Rattle.session.specs.RowLaws.{handle-numbered, handle-size}
 use Rattle.rolling_tape.specs.Room.{on_disk}
 use Rattle.staging.specs.Seeing.{directory_of, touched_as}
 use Rattle.staging.specs.Laws.{touched-fits}
-use Rattle.appending.specs.Room.{low_of, end_of, lacking_in, is_staged, lacking_of, lacking_all, no_room}
+use Rattle.appending.specs.Room.{low_of, end_of, lacking_in, is_staged, lacking_of, lacking_all, place_of, no_room}
 
 -- ---- one directory
 
@@ -55,6 +56,16 @@ module _ (s : List ℕ) (to p : ℕ) (h : Handle) (row : h ≡ handle_of s p) wh
 
     pub staged-other : p ≢ to → (r : Staged) → r ≡ staged_of s p → is_staged s to p ≡ r.touched
     staged-other n r e = rw (opened, ne_eqb p to n, e)
+
+-- the tape that is appended to, as the code tests it
+pub to_tape : (to : Option ℕ) (p : ℕ) → p < 8 → option_eq eqb to (Some p) ≡ eqb p (place_of to)
+to_tape (Some q) p low = equal p q (λ (e : p ≡ q). rw (eq-eqb q p (sym e), eq-eqb p q e) refl) (λ n. rw (ne_eqb q p (λ e. n (sym e)), ne_eqb p q n) refl)
+to_tape None p low = sym (ne_eqb p 8 (λ e. omega arith))
+
+-- what holds of the tape that is appended to holds of its place, which is not 8
+pub place-holds : (P : ℕ → Type 0) (to : Option ℕ) → ((p : ℕ) → to ≡ Some p → P p) → place_of to ≢ 8 → P (place_of to)
+place-holds P (Some p) each n = each p refl
+place-holds P None each n = absurd (n refl)
 
 pub staged-held : (s : List ℕ) (to p : ℕ) → is_staged s to p ≡ true → handle_number s p ≢ 0
 staged-held s to p e z =

@@ -3,7 +3,7 @@ ghost use Rattle.std.specs.Prelude.{◌≡◌, cond, ◌≢◌, ℕ, ◌+◌, �
 ghost use Rattle.layout.specs.Disk.{Sound};
 ghost use Rattle.layout.specs.Session.{Begun};
 ghost use Rattle.staging.specs.Seeing.{touched_as};
-ghost use Rattle.appending.specs.Room.{low_of, end_of, lacking_in, is_staged, lacking_of, no_room};
+ghost use Rattle.appending.specs.Room.{low_of, end_of, lacking_in, is_staged, lacking_of, place_of, no_room};
 
 use layout::Session;
 use session::Staged;
@@ -40,57 +40,36 @@ fn lacking_in(disk: &[u8], file_size: u64, low: u64, end: u64, directory: Option
 }
 
 // Whether a tape is staged: open, and touched or the one that is appended to.
-fn is_staged(session: &[u8], to: usize, tape: usize) -> bool
+fn is_staged(session: &[u8], to: Option<usize>, tape: usize) -> bool
     requires { Begun session.now × (tape < 8) }
-    ensures { result ≡ is_staged session.now to tape }
+    ensures { result ≡ is_staged session.now (place_of to) tape }
 {
-    let handle = session::get_handle(session, tape);
-    if handle.number == 0 {
+    if session::get_handle(session, tape).number == 0 {
         return false;
     }
-    if tape == to {
-        return true;
-    }
-    let staged = session::get_staged(session, tape);
-    staged.touched
-}
-
-// How many bytes a tape gets, if `more` are appended to the tape `to`.
-fn more_on(to: usize, more: usize, tape: usize) -> usize
-    ensures { result ≡ cond (eqb tape to) more 0 }
-{
-    if tape == to {
-        return more;
-    }
-    0
+    to == Some(tape) || session::get_staged(session, tape).touched
 }
 
 // How many files a tape lacks, up to 65, if `more` bytes are appended to the tape `to`.
-fn lacking_of(disk: &[u8], session: &[u8], to: usize, more: usize, tape: usize) -> u64
-    requires { (Sound disk.now × Begun session.now) × ((tape < 8) × ((touched_as session.now tape).len + (cond (eqb tape to) more 0) < 2 ^ 64)) }
-    ensures { result ≡ min (lacking_of disk.now session.now to more tape) 65 }
+fn lacking_of(disk: &[u8], session: &[u8], to: Option<usize>, more: usize, tape: usize) -> u64
+    requires { (Sound disk.now × Begun session.now) × ((tape < 8) × ((touched_as session.now tape).len + (cond (eqb tape (place_of to)) more 0) < 2 ^ 64)) }
+    ensures { result ≡ min (lacking_of disk.now session.now (place_of to) more tape) 65 }
 {
-    if is_staged(session, to, tape) {
-        let row = staging::touched_as(session, tape);
-        let behind = more_on(to, more, tape);
-        let handle = session::get_handle(session, tape);
-        let name = session::tape_name(session, tape);
-        let directory = disk::find_directory(disk, name);
-        return lacking_in(
-            disk,
-            handle.file_size,
-            low_of(row),
-            end_of(row, behind),
-            directory,
-        );
+    if !is_staged(session, to, tape) {
+        return 0;
     }
-    0
+    let row = staging::touched_as(session, tape);
+    let behind = if to == Some(tape) { more } else { 0 };
+    let file_size = session::get_handle(session, tape).file_size;
+    let name = session::tape_name(session, tape);
+    let directory = disk::find_directory(disk, name);
+    lacking_in(disk, file_size, low_of(row), end_of(row, behind), directory)
 }
 
-// Whether files are too many, once `more` bytes are appended to the tape `to`; 8 stands for none.
-pub fn no_room(disk: &[u8], session: &[u8], to: usize, more: usize) -> bool
-    requires { (Sound disk.now × Begun session.now) × (to ≢ 8 → (to < 8) × ((touched_as session.now to).len + more < 2 ^ 64)) }
-    ensures { result ≡ no_room disk.now session.now to more }
+// Whether files are too many, once `more` bytes are appended to the tape `to`, if to any.
+pub fn no_room(disk: &[u8], session: &[u8], to: Option<usize>, more: usize) -> bool
+    requires { (Sound disk.now × Begun session.now) × ((tape : ℕ) → to ≡ Some tape → (tape < 8) × ((touched_as session.now tape).len + more < 2 ^ 64)) }
+    ensures { result ≡ no_room disk.now session.now (place_of to) more }
 {
     let mut lacking = 0;
     for i in 0..Session::MOST_TAPES {

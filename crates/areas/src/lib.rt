@@ -22,17 +22,11 @@ pub enum FormatError {
 pub fn format(disk: &mut [u8], session: &mut [u8], slots: u64) -> Result<(), FormatError>
     ensures { format_step disk.old session.old slots ≡ outcome result disk.new session.new }
 {
-    if slots < 1 {
-        return Err(FormatError::BadSlotCount);
-    }
-    if (Disk::MOST_SLOTS as u64) < slots {
+    if slots < 1 || slots > Disk::MOST_SLOTS as u64 {
         return Err(FormatError::BadSlotCount);
     }
     let count = slots as usize;
-    if disk.len() < layout::disk_bytes(count) {
-        return Err(FormatError::TooSmall);
-    }
-    if session.len() < Session::BYTES {
+    if disk.len() < layout::disk_bytes(count) || session.len() < Session::BYTES {
         return Err(FormatError::TooSmall);
     }
     disk::format(disk, count);

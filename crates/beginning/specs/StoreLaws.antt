@@ -1,7 +1,7 @@
 -- Laws of `store`: a refused one changes nothing; a served one leaves a session that keeps the rule, and means the list of the record that counts. That
 -- its numbers are 64-bit ones is known since they are read from bytes. Assumes nothing.
 use Prim.{tt}
-use Rattle.std.specs.Prelude.{◌≡◌, refl, ◌≢◌, true, drop, Ok}
+use Rattle.std.specs.Prelude.{◌≡◌, refl, ◌≢◌, true, drop, Option, Some, None, Ok}
 use Rattle.std.proofs.Common.{sym, ap, subst, ◌∙◌, arith}
 use mathlib.Core.List.{List, [], ◌∷◌}
 use Prim.Native.Nat.{ℕ, zero, suc, ◌+◌, ◌≤◌, ◌<◌, ◌^◌}
@@ -20,8 +20,7 @@ use Rattle.metadata.specs.Choice.{part_of, left_counts, chosen, next_side, chose
 use Rattle.metadata.specs.Rules.{fits-true, good-first, good_others, good-few, good-tapes}
 use Rattle.metadata.specs.RecordLaws.{none-epoch, none_list, some-epoch, some-list}
 use Rattle.metadata.specs.RoundTrip.{Sizes, decode-good, decode-sizes}
-use Rattle.metadata.specs.declared.record.Reading.{Reading}
-use Rattle.metadata.specs.declared.record.Reading.TheVariants.{Whole, Empty}
+use Rattle.metadata.specs.declared.record.Record.{Record}
 use Rattle.metadata.specs.declared.choice.Side.{Side}
 use Rattle.metadata.specs.declared.choice.Side.TheVariants.{Left, Right}
 use Rattle.layout.specs.Names.{put_name}
@@ -47,9 +46,9 @@ bytes-side : (d : List ℕ) (side : Side) → Bytes d → Bytes (side_bytes d si
 unfolding side_bytes
 bytes-side d side b = bytes_take (side_len d side) (drop (side_at side) d) (bytes_drop (side_at side) d b)
 
-bytes-part : (s : List ℕ) (r : Reading) → Bytes s → Bytes (part_of s r)
-bytes-part s (Whole epoch list) b = bytes_take (48 + list) s b
-bytes-part s Empty b = λ i. omega arith
+bytes-part : (s : List ℕ) (r : Option Record) → Bytes s → Bytes (part_of s r)
+bytes-part s (Some r) b = bytes_take (48 + r.list_len) s b
+bytes-part s None b = λ i. omega arith
 
 pub bytes-record : (d : List ℕ) → Bytes d → Bytes (the_record d)
 unfolding chosen

@@ -1,9 +1,9 @@
 -- A transaction begun in a place of the session; whom an append waits for. Assumes nothing.
-use Rattle.std.specs.Prelude.{Bool, cond, ◌&&◌, List, ℕ, ◌+◌, eqb, ltb, Ok, Err}
+use Rattle.std.specs.Prelude.{Bool, ⊤, cond, ◌&&◌, List, ℕ, ◌+◌, eqb, ltb, Result, Ok, Err}
 use Rattle.octets.specs.First.{count}
 use Rattle.answers.specs.Answers.{Answer}
 use Rattle.answers.specs.declared.Refusal.{Refusal}
-use Rattle.answers.specs.declared.Refusal.TheVariants.{TooLarge}
+use Rattle.answers.specs.declared.Refusal.TheVariants.{Unusable, TooLarge}
 use Rattle.layout.specs.Disk as D
 use Rattle.layout.specs.Session as S
 use Rattle.session.specs.Rows.{head_of, put_head, copy_view, transaction_of, put_transaction}
@@ -25,6 +25,10 @@ refused why s = after (Err why) s
 -- both areas keep their layout rules and a session was begun: else 1
 unfoldable pub usable : List ℕ → List ℕ → Bool
 usable d s = D.sound d && S.begun s
+
+-- the first guard of a call: 1, or nothing
+unfoldable pub check_usable : List ℕ → List ℕ → Result ⊤ Refusal
+check_usable d s = cond (usable d s) (Ok tt) (Err Unusable)
 
 unfoldable pub is_open_at : List ℕ → ℕ → Bool
 is_open_at s t = is_open (transaction_of s t).kind

@@ -1,5 +1,5 @@
 -- The ways out of each call, in the code's order: a law for each. Assumes nothing.
-use Rattle.std.specs.Prelude.{◌≡◌, refl, ◌≢◌, true, false, not, List, ℕ, ◌+◌, ◌≤◌, ◌<◌, ltb, Some, None, Ok}
+use Rattle.std.specs.Prelude.{◌≡◌, refl, ◌≢◌, true, false, not, List, ℕ, ◌+◌, ◌≤◌, ◌<◌, ltb, Option, Some, None, Ok}
 use Rattle.std.proofs.Common.{sym, ap, ◌∙◌, arith}
 use borrow.Author.Tests.{lt-ltb, le-ltb, eq-eqb, ne_eqb}
 use Rattle.octets.specs.Cases.{and_l, and_r, and_both}
@@ -12,8 +12,8 @@ use Rattle.areas.specs.Format.{Formatted}
 use Rattle.metadata.specs.Decoding.{Listing, tapes, unreadable}
 use Rattle.metadata.specs.Choice.{chosen, next_side, chosen_epoch, chosen_list}
 use Rattle.metadata.specs.declared.choice.Side.{Side}
-use Rattle.metadata.specs.declared.decode.Decoded.{Decoded}
-use Rattle.metadata.specs.Struct.{decoded_of, tapes_of}
+use Rattle.metadata.specs.declared.list.TapeList.{TapeList}
+use Rattle.metadata.specs.Struct.{decoded_of, list_of, tapes_of}
 use Rattle.metadata.specs.StructLaws.{tapes-of-list}
 use Rattle.metadata.specs.declared.choice.Side.TheVariants.{Left, Right}
 use Rattle.layout.specs.Disk as D
@@ -169,14 +169,14 @@ module _ (d s : List ℕ) where
 -- ---- a new session
 
 -- what the code has of a list that was read is that list
-pub start-read : (d s : List ℕ) (l : Listing) → (decoded_of l).readable ≡ true
+pub start-read : (d s : List ℕ) (l : Listing) (list : TapeList) → decoded_of l ≡ Some list
     → start_with d s l
-    ≡ after (Ok (chosen_epoch (the_record d))) (begin_session s (chosen_epoch (the_record d)) (next_side (side_bytes d Left) (side_bytes d Right)) (tapes_of (decoded_of l).list))
-start-read d s (tapes ts) h = rw (tapes-of-list ts)
-start-read d s unreadable h = let z : ◌≡◌ {A = ℕ} 0 1 = cc in absurd (omega arith)
+    ≡ after (Ok (chosen_epoch (the_record d))) (begin_session s (chosen_epoch (the_record d)) (next_side (side_bytes d Left) (side_bytes d Right)) (tapes_of list))
+start-read d s (tapes ts) list h = let same : list_of ts ≡ list = cc in rw (← same, tapes-of-list ts)
+start-read d s unreadable list h = absurd (cc)
 
-pub start-unread : (d s : List ℕ) (l : Listing) → (decoded_of l).readable ≡ false → start_with d s l ≡ refused BadList s
-start-unread d s (tapes ts) h = let z : ◌≡◌ {A = ℕ} 0 1 = cc in absurd (omega arith)
+pub start-unread : (d s : List ℕ) (l : Listing) → decoded_of l ≡ None → start_with d s l ≡ refused BadList s
+start-unread d s (tapes ts) h = absurd (cc)
 start-unread d s unreadable h = refl
 
 module _ (d s : List ℕ) where
@@ -189,20 +189,20 @@ module _ (d s : List ℕ) where
   store-starts h = rw h
 
 -- by what the code reads of the disk
-module _ (d s left right found : List ℕ) (list : Decoded) (ok : both_sound d s ≡ true) (a : left ≡ side_bytes d Left) (b : right ≡ side_bytes d Right)
-    (picked : found ≡ chosen left right) (decoded : list ≡ decoded_of (chosen_list found)) where
+module _ (d s left right found : List ℕ) (decoded : Option TapeList) (ok : both_sound d s ≡ true) (a : left ≡ side_bytes d Left) (b : right ≡ side_bytes d Right)
+    (picked : found ≡ chosen left right) (listed : decoded ≡ decoded_of (chosen_list found)) where
   the-found : found ≡ the_record d
   the-found = picked ∙ rw (a, b)
 
-  the-list : list ≡ decoded_of (chosen_list (the_record d))
-  the-list = decoded ∙ ap (λ (r : List ℕ). decoded_of (chosen_list r)) the-found
+  the-list : decoded ≡ decoded_of (chosen_list (the_record d))
+  the-list = listed ∙ ap (λ (r : List ℕ). decoded_of (chosen_list r)) the-found
 
-  pub store-unread : list.readable ≡ false → store_call d s ≡ refused BadList s
-  store-unread h = store-starts d s ok ∙ start-unread d s (chosen_list (the_record d)) (sym (ap (λ (c : Decoded). c.readable) the-list) ∙ h)
+  pub store-unread : decoded ≡ None → store_call d s ≡ refused BadList s
+  store-unread h = store-starts d s ok ∙ start-unread d s (chosen_list (the_record d)) (sym the-list ∙ h)
 
-  pub store-read : (epoch : ℕ) (side : Side) (t : List ℕ) → list.readable ≡ true → epoch ≡ chosen_epoch found → side ≡ next_side left right
-      → t ≡ begin_session s epoch side (tapes_of list.list) → store_call d s ≡ after (Ok epoch) t
-  store-read epoch side t h e n w =
+  pub store-read : (list : TapeList) (epoch : ℕ) (side : Side) (t : List ℕ) → decoded ≡ Some list → epoch ≡ chosen_epoch found → side ≡ next_side left right
+      → t ≡ begin_session s epoch side (tapes_of list) → store_call d s ≡ after (Ok epoch) t
+  store-read list epoch side t h e n w =
       store-starts d s ok
-      ∙ start-read d s (chosen_list (the_record d)) (sym (ap (λ (c : Decoded). c.readable) the-list) ∙ h)
-      ∙ rw (w, e, n, the-list, the-found, a, b)
+      ∙ start-read d s (chosen_list (the_record d)) list (sym the-list ∙ h)
+      ∙ rw (w, e, n, the-found, a, b)

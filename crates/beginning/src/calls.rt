@@ -3,7 +3,7 @@ ghost use Rattle.std.specs.Prelude.{◌≡◌};
 ghost use Rattle.beginning.specs.Transactions.{after};
 ghost use Rattle.beginning.specs.Calls.{append_call, reader_call, truncate_call};
 
-use crate::transactions::{begin_at, is_open, is_usable, waiting_for};
+use crate::transactions::{begin_at, check_usable, is_open, waiting_for};
 use answers::Refusal;
 use layout::Session;
 use session::Kind;
@@ -12,45 +12,36 @@ use session::Kind;
 pub fn append(disk: &[u8], session: &mut [u8]) -> Result<u64, Refusal>
     ensures { append_call disk.now session.old ≡ after result session.new }
 {
-    if is_usable(disk, session) {
-        if is_open(session, Session::WRITER) {
-            return Err(Refusal::WriterOpen);
-        }
-        let head = session::get_head(session);
-        if head.cut {
-            let readers = waiting_for(session, head.epoch);
-            if 0 < readers {
-                return Err(Refusal::Wait(readers));
-            }
-        }
-        return begin_at(session, Session::WRITER, Kind::Append);
+    check_usable(disk, session)?;
+    if is_open(session, Session::WRITER) {
+        return Err(Refusal::WriterOpen);
     }
-    Err(Refusal::Unusable)
+    let head = session::get_head(session);
+    if head.cut {
+        let readers = waiting_for(session, head.epoch);
+        if 0 < readers {
+            return Err(Refusal::Wait(readers));
+        }
+    }
+    begin_at(session, Session::WRITER, Kind::Append)
 }
 
 // Begins a truncate and answers its number. Refused: 1, 3, 18.
 pub fn truncate(disk: &[u8], session: &mut [u8]) -> Result<u64, Refusal>
     ensures { truncate_call disk.now session.old ≡ after result session.new }
 {
-    if is_usable(disk, session) {
-        if is_open(session, Session::WRITER) {
-            return Err(Refusal::WriterOpen);
-        }
-        return begin_at(session, Session::WRITER, Kind::Truncate);
+    check_usable(disk, session)?;
+    if is_open(session, Session::WRITER) {
+        return Err(Refusal::WriterOpen);
     }
-    Err(Refusal::Unusable)
+    begin_at(session, Session::WRITER, Kind::Truncate)
 }
 
 // Begins a reader and answers its number. Refused: 1, 5, 18.
 pub fn reader(disk: &[u8], session: &mut [u8]) -> Result<u64, Refusal>
     ensures { reader_call disk.now session.old ≡ after result session.new }
 {
-    if is_usable(disk, session) {
-        let free = session::free_reader(session);
-        let Some(place) = free else {
-            return Err(Refusal::Full);
-        };
-        return begin_at(session, place, Kind::Reader);
-    }
-    Err(Refusal::Unusable)
+    check_usable(disk, session)?;
+    let place = session::free_reader(session).ok_or(Refusal::Full)?;
+    begin_at(session, place, Kind::Reader)
 }

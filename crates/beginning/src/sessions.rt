@@ -20,19 +20,17 @@ fn both_sound(disk: &[u8], session: &[u8]) -> bool
 pub fn store(disk: &[u8], session: &mut [u8]) -> Result<u64, Refusal>
     ensures { store_call disk.now session.old ≡ after result session.new }
 {
-    if both_sound(disk, session) {
-        let left = disk::side_part(disk, Side::Left);
-        let right = disk::side_part(disk, Side::Right);
-        let record = metadata::pick(left, right);
-        let decoded = metadata::list_of(record);
-        if decoded.readable {
-            let epoch = metadata::epoch_of(record);
-            let side = metadata::next_side(left, right);
-            let list = decoded.list;
-            session::begin(session, epoch, side, list);
-            return Ok(epoch);
-        }
-        return Err(Refusal::BadList);
+    if !both_sound(disk, session) {
+        return Err(Refusal::Unusable);
     }
-    Err(Refusal::Unusable)
+    let left = disk::side_part(disk, Side::Left);
+    let right = disk::side_part(disk, Side::Right);
+    let record = metadata::pick(left, right);
+    let Some(list) = metadata::list_of(record) else {
+        return Err(Refusal::BadList);
+    };
+    let epoch = metadata::epoch_of(record);
+    let side = metadata::next_side(left, right);
+    session::begin(session, epoch, side, list);
+    Ok(epoch)
 }

@@ -1,7 +1,8 @@
 // A transaction in a place of the session, and whom an append waits for.
-ghost use Rattle.std.specs.Prelude.{◌≡◌, ◌≤◌, ◌<◌, length};
-ghost use Rattle.layout.specs.Session.{session_bytes};
-ghost use Rattle.beginning.specs.Transactions.{usable, is_older, waiting_for, begin_at, is_open_at, after};
+ghost use Rattle.std.specs.Prelude.{◌≡◌, ◌≤◌, ◌<◌, length, OnOk};
+ghost use Rattle.layout.specs.Disk.{Sound};
+ghost use Rattle.layout.specs.Session.{session_bytes, Begun};
+ghost use Rattle.beginning.specs.Transactions.{usable, check_usable, is_older, waiting_for, begin_at, is_open_at, after};
 
 use answers::Refusal;
 use layout::Session;
@@ -11,10 +12,18 @@ use session::{Head, Kind, Transaction};
 pub fn is_usable(disk: &[u8], session: &[u8]) -> bool
     ensures { result ≡ usable disk.now session.now }
 {
-    if layout::is_sound_disk(disk) {
-        return layout::is_begun_session(session);
+    layout::is_sound_disk(disk) && layout::is_begun_session(session)
+}
+
+// The first guard of a call, for `?`. Refused: 1.
+pub fn check_usable(disk: &[u8], session: &[u8]) -> Result<(), Refusal>
+    ensures value { result ≡ check_usable disk.now session.now }
+    ensures served { OnOk result (Sound disk.now × Begun session.now) }
+{
+    if !is_usable(disk, session) {
+        return Err(Refusal::Unusable);
     }
-    false
+    Ok(())
 }
 
 // Whether a place has an open transaction.
@@ -23,11 +32,7 @@ pub fn is_open(session: &[u8], place: usize) -> bool
     ensures { result ≡ is_open_at session.now place }
 {
     let row = session::get_transaction(session, place);
-    let kind = row.kind;
-    match kind {
-        Kind::Closed => false,
-        _ => true,
-    }
+    !matches!(row.kind, Kind::Closed)
 }
 
 // Whether a place has a transaction that began before an epoch.
@@ -35,11 +40,7 @@ fn is_older(session: &[u8], place: usize, epoch: u64) -> bool
     requires { (session_bytes ≤ length session.now) × (place < 17) }
     ensures { result ≡ is_older session.now epoch place }
 {
-    if is_open(session, place) {
-        let row = session::get_transaction(session, place);
-        return row.epoch < epoch;
-    }
-    false
+    is_open(session, place) && session::get_transaction(session, place).epoch < epoch
 }
 
 // How many readers are of an older epoch.
@@ -59,30 +60,26 @@ pub fn begin_at(session: &mut [u8], place: usize, kind: Kind) -> Result<u64, Ref
     ensures { begin_at session.old place kind ≡ after result session.new }
 {
     let head = session::get_head(session);
-    let last = head.last_transaction;
-    if last == 0xffff_ffff_ffff_ffff {
-        return Err(Refusal::TooLarge);
-    }
-    let number = last + 1;
+    let number = head
+        .last_transaction
+        .checked_add(1)
+        .ok_or(Refusal::TooLarge)?;
+    let epoch = head.epoch;
     session::put_transaction(
         session,
         place,
         Transaction {
-            kind: kind,
-            number: number,
-            epoch: head.epoch,
+            kind,
+            number,
+            epoch,
         },
     );
     session::copy_view(session, Session::LIST, place);
-    let side = head.side;
     session::put_head(
         session,
         Head {
-            epoch: head.epoch,
-            cut: head.cut,
-            side: side,
             last_transaction: number,
-            last_handle: head.last_handle,
+            ..head
         },
     );
     Ok(number)

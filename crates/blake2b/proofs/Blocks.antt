@@ -1,5 +1,5 @@
 -- The turns of the loops that write out the words of h and that take up the blocks of the data, with where each starts and ends. Assumes nothing.
-use Rattle.std.proofs.Common.{◌≡◌, ℕ, suc, ◌+◌, ◌-◌, ◌*◌, ◌/◌, ◌%◌, ◌^◌, ◌<◌, ◌≤◌, true, false, List, ◌++◌, length, get_or, drop, sym, ap, ◌∙◌, ⊎_elim, append-nil, eq-zero-or-pos, add-one, arith, drop_of_length-le, drop-cons}
+use Rattle.std.proofs.Common.{◌≡◌, ℕ, suc, ◌+◌, ◌-◌, ◌*◌, ◌/◌, ◌<◌, ◌≤◌, true, false, List, ◌++◌, length, get_or, drop, sym, ap, ◌∙◌, ⊎_elim, append-nil, eq-zero-or-pos, add-one, arith, drop_of_length-le, drop-cons}
 use Rattle.octets.specs.Bytes.{put, put-append, put_front}
 use Rattle.octets.specs.Number.{le, put_num, length-le}
 use Rattle.blake2b.specs.Blake2b.{F, words_from, bytes_of, keyed, block_from, d, dd, absorbed, finished}
@@ -29,49 +29,30 @@ bytes-start s h e =
     ∙ ap (λ (r : List ℕ). bytes_of h ++ r) (drop_of_length-le s {i = length (bytes_of h)} (omega (arith, length-bytes_of h)))
     ∙ append-nil (bytes_of h)
 
--- ---- the blocks taken up, at the place of each
+-- ---- the blocks taken up
 
-module _ (h s : List ℕ) (at : ℕ) (whole : at % 128 ≡ 0) where
-  words-at : d s (at / 128) ≡ words_from 16 (block_from s at) 0
+module _ (h s : List ℕ) (i at : ℕ) (here : at ≡ 128 * i) where
+  words-at : d s i ≡ words_from 16 (block_from s at) 0
   unfolding d
   words-at =
-      let e : at / 128 * 128 ≡ at = omega arith in
+      let e : i * 128 ≡ at = omega arith in
       rw e
 
-  pub absorbed-turn : absorbed h s ((at + 128) / 128) ≡ F (absorbed h s (at / 128)) (words_from 16 (block_from s at) 0) (at + 128) false
+  pub absorbed-turn : absorbed h s (i + 1) ≡ F (absorbed h s i) (words_from 16 (block_from s at) 0) (at + 128) false
   unfolding absorbed
   absorbed-turn =
-      let e : (at + 128) / 128 ≡ suc (at / 128) = omega arith in
-      let t : (at / 128 + 1) * 128 ≡ at + 128 = omega arith in
-      rw (e, t, words-at)
+      let t : (i + 1) * 128 ≡ at + 128 = omega arith in
+      rw (add-one, ← t, words-at)
 
-  pub finished-at : (n : ℕ) → at / 128 ≡ n → finished h s n ≡ F (absorbed h s (at / 128)) (words_from 16 (block_from s at) 0) (length s) true
+  pub finished-at : finished h s i ≡ F (absorbed h s i) (words_from 16 (block_from s at) 0) (length s) true
   unfolding finished
-  finished-at n e = rw (← e, words-at)
+  finished-at = rw words-at
 
--- the last block stands at the last place that is a whole number of blocks and not behind the data, or at 0
-pub last_block : (key : List ℕ) (ll at : ℕ) → length key ≤ 64 → at % 128 ≡ 0 → (0 < at → at < length (keyed key) + ll) → length (keyed key) + ll ≤ at + 128 → at / 128 ≡ dd (length key) ll - 1
+-- the blocks before the last: as many as all bytes but one fill
+pub last_block : (key : List ℕ) (ll : ℕ) → length key ≤ 64 → (length (keyed key) + ll - 1) / 128 ≡ dd (length key) ll - 1
 unfolding dd
-last_block key ll at short whole more last =
+last_block key ll short =
     ⊎_elim
-    (λ (e : length key ≡ 0).
-    ⊎_elim
-    (λ (z : at ≡ 0). omega (arith, length-keyed-none key e))
-    (λ (p : 0 < at). omega (arith, length-keyed-none key e, more p))
-    (eq-zero-or-pos at))
-    (λ (l : 0 < length key).
-    ⊎_elim
-    (λ (z : at ≡ 0). omega (arith, length-keyed key l (omega arith)))
-    (λ (p : 0 < at). omega (arith, length-keyed key l (omega arith), more p))
-    (eq-zero-or-pos at))
+    (λ (e : length key ≡ 0). omega (arith, length-keyed-none key e))
+    (λ (l : 0 < length key). omega (arith, length-keyed key l (omega arith)))
     (eq-zero-or-pos (length key))
-
--- ---- the blocks before a place, taken up: the loop's invariant
-
-pub record Taken (first s : List ℕ) (total : ℕ) (h : List ℕ) (at : ℕ) : Type 0 where
-  pub all : length s ≡ total
-  pub fits : total + 128 < 2 ^ 64
-  pub whole : at % 128 ≡ 0
-  pub within : at ≤ total
-  pub more : 0 < at → at < total
-  pub words : h ≡ absorbed first s (at / 128)

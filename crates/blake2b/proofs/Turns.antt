@@ -1,11 +1,18 @@
 -- The turns of the loops over rounds and words, each as an equation of the definitions that the loop follows. Assumes nothing.
-use Rattle.std.proofs.Common.{◌≡◌, ℕ, zero, suc, ◌+◌, ◌*◌, ◌/◌, ◌%◌, ◌^◌, ◌<◌, ◌≤◌, Bool, List, [], ◌∷◌, ◌++◌, length, get_or, take, drop, set, sym, refl, ap, ◌∙◌, append-nil, add-zero, mod-eq_of_lt, add_comm, add-one, arith, length-drop, length-set, take-append-drop, drop_of_length-le, take_all, drop-cons, get_or-set_other, take-suc, take-suc-set, get_or-append-add, drop-set-lt}
-use lib.Seq.{append_snoc, drop-set-add, set-get_or, take-set-le}
+use Rattle.std.proofs.Common.{◌≡◌, ℕ, zero, suc, ◌+◌, ◌-◌, ◌*◌, ◌/◌, ◌%◌, ◌^◌, ◌<◌, ◌≤◌, Bool, true, false, List, [], ◌∷◌, ◌++◌, length, get_or, take, drop, set, bit_xor, lit<, replicate, refl, sym, ap, ◌∙◌, append-nil, add-zero, mod-eq_of_lt, add-one, arith, drop_of_length-le, take_all, drop-cons, get_or-set_other, take-suc-set, get_or-append-add, drop-set-lt}
+use Rattle.std.proofs.Math.Seq.{take-append_seam, drop-append_seam}
+use borrow.Rule.Slice.PartMut.{put_mid}
+use lib.Seq.{append_snoc, set-get_or}
 use Rattle.octets.specs.Number.{num_at}
 use Rattle.blake2b.specs.Words.{xor}
-use Rattle.blake2b.specs.WordLaws.{xor-zero}
+use Rattle.blake2b.specs.WordLaws.{xor_is, xor_lt, xor-zero}
 use Rattle.blake2b.specs.Constants.{IV}
 use Rattle.blake2b.specs.Blake2b.{round, rounds, words_from, flagged, work_vector, fold_from}
+
+-- ---- the machine's exclusive or of three words
+
+pub xor_three : (a b c : ℕ) → a < 2 ^ 64 → b < 2 ^ 64 → c < 2 ^ 64 → bit_xor (bit_xor a b) c ≡ xor (xor a b) c
+xor_three a b c p q r = ap (λ (x : ℕ). bit_xor x c) (xor_is a b p q) ∙ xor_is (xor a b) c (xor_lt a b) r
 
 -- ---- twelve_rounds: one round more
 
@@ -46,47 +53,29 @@ module _ (h v : List ℕ) (i : ℕ) where
   unfolding fold_from
   fold_end l = rw (drop_of_length-le h l, take_all i h l) (append-nil h)
 
--- ---- work_vector: the first i words of h and of IV stand in v
+-- ---- work_vector: h and IV, one behind the other
 
-pub record Filled (h v : List ℕ) (i : ℕ) : Type 0 where
-  pub long : length v ≡ 16
-  pub front : take i v ≡ take i h
-  pub back : take i (drop 8 v) ≡ take i IV
+-- what is written over the second half of a vector stands behind its first
+second-half : (h z s : List ℕ) → length h ≡ 8 → length z ≡ 8 → put_mid 8 8 (h ++ z) s ≡ h ++ s
+second-half h z s l m =
+    let front : take 8 (h ++ z) ≡ h = ap (λ (n : ℕ). take n (h ++ z)) (sym l) ∙ take-append_seam h z in
+    let back : drop 8 (h ++ z) ≡ z = ap (λ (n : ℕ). drop n (h ++ z)) (sym l) ∙ drop-append_seam h z in
+    let rest : drop 8 z ≡ [] = drop_of_length-le z {i = 8} (omega arith) in
+    rw (front, back, rest) (ap (λ (r : List ℕ). h ++ r) (append-nil s))
 
-pub filled_none : (h v : List ℕ) → length v ≡ 16 → Filled h v 0
-filled_none h v l = record { long = l; front = refl; back = refl }
+-- what the two copies leave
+pub copied : (h a b : List ℕ) → length h ≡ 8 → a ≡ h → b ≡ IV → put_mid 8 8 (a ++ replicate 8 0) b ≡ h ++ IV
+copied h a b l p q = rw (p, q) (second-half h (replicate 8 0) IV l refl)
 
-pub filled-step : (h v : List ℕ) (i : ℕ) → length h ≡ 8 → i < 8 → Filled h v i → Filled h (set (set v i (get_or h i 0)) (i + 8) (get_or IV i 0)) (i + 1)
-unfolding IV
-filled-step h v i l less f =
-    let x : ℕ = get_or h i 0 in
-    let y : ℕ = get_or IV i 0 in
-    let room : i < length (drop 8 v) = simp length-drop (omega (arith, f.long)) in
-    record {
-      long = length-set (set v i x) (i + 8) y ∙ length-set v i x ∙ f.long;
-      front =
-          rw (take-set-le (i + 1) (set v i x) (i + 8) y (omega arith), add-one, take-suc-set v i x (omega (arith, f.long)), f.front)
-          (sym (take-suc h i 0 (omega arith)));
-      back =
-          rw (add_comm i 8, drop-set-add 8 (set v i x) i y, drop-set-lt 8 v i x less, add-one, take-suc-set (drop 8 v) i y room, f.back)
-          (sym (take-suc IV i 0 less));
-    }
-
-pub filled-all : (h v : List ℕ) (i : ℕ) → length h ≡ 8 → i ≡ 8 → Filled h v i → v ≡ h ++ IV
-unfolding IV
-filled-all h v i l e f =
-    let r : length (drop 8 v) ≤ i = simp length-drop (omega (arith, f.long)) in
-    sym (take-append-drop 8 v)
-    ∙ ap (λ (t : List ℕ). t ++ drop 8 v) (ap (λ (n : ℕ). take n v) (sym e) ∙ f.front ∙ take_all i h (omega arith))
-    ∙ ap (λ (t : List ℕ). h ++ t) (sym (take_all i (drop 8 v) r) ∙ f.back ∙ take_all i IV (omega arith))
+-- word k of IV
+word : (h : List ℕ) (k : ℕ) → length h ≡ 8 → get_or (h ++ IV) (8 + k) 0 ≡ get_or IV k 0
+word h k l = ap (λ (n : ℕ). get_or (h ++ IV) (n + k) 0) (sym l) ∙ get_or-append-add h IV k 0
 
 -- v[13] is a word whatever h holds: it is one of IV
 thirteen-lt : (h : List ℕ) (x : ℕ) → length h ≡ 8 → get_or (set (h ++ IV) 12 x) 13 0 < 2 ^ 64
 unfolding IV
 thirteen-lt h x l =
-    let e : length h + 5 ≡ 13 = omega arith in
-    let g : get_or (h ++ IV) 13 0 ≡ get_or IV 5 0 = ap (λ (n : ℕ). get_or (h ++ IV) n 0) (sym e) ∙ get_or-append-add h IV 5 0 in
-    rw (get_or-set_other (h ++ IV) 12 13 x 0 (λ q. omega arith), g) (omega arith)
+    rw (get_or-set_other (h ++ IV) 12 13 x 0 (λ q. omega arith), word h 5 l) (lit< tt)
 
 -- a count of one word leaves v[13] as it was
 pub work_vector-word : (h : List ℕ) (t : ℕ) (f : Bool) → length h ≡ 8 → t < 2 ^ 64 → work_vector h t f ≡ flagged f (set (h ++ IV) 12 (xor (get_or (h ++ IV) 12 0) t))
@@ -96,3 +85,26 @@ work_vector-word h t f l p =
     let high : t / 2 ^ 64 ≡ 0 = omega arith in
     let v : List ℕ = set (h ++ IV) 12 (xor (get_or (h ++ IV) 12 0) t) in
     rw (low, high, xor-zero (get_or v 13 0) (thirteen-lt h (xor (get_or (h ++ IV) 12 0) t) l), set-get_or v 13 0)
+
+module _ (h : List ℕ) (t : ℕ) (long : length h ≡ 8) (fits : t < 2 ^ 64) where
+  abbrev counted : List ℕ
+  counted = set (h ++ IV) 12 (bit_xor (get_or (h ++ IV) 12 0) t)
+
+  counted-xor : set (h ++ IV) 12 (xor (get_or (h ++ IV) 12 0) t) ≡ counted
+  unfolding IV
+  counted-xor =
+      let small : get_or (h ++ IV) 12 0 < 2 ^ 64 = rw (word h 4 long) (lit< tt) in
+      ap (λ (x : ℕ). set (h ++ IV) 12 x) (sym (xor_is (get_or (h ++ IV) 12 0) t small fits))
+
+  pub work_vector-counted : work_vector h t false ≡ counted
+  unfolding flagged
+  work_vector-counted = work_vector-word h t false long fits ∙ counted-xor
+
+  pub work_vector-last : work_vector h t true ≡ set counted 14 (bit_xor (get_or counted 14 0) (2 ^ 64 - 1))
+  unfolding flagged IV
+  work_vector-last =
+      let small : get_or counted 14 0 < 2 ^ 64
+      = rw (get_or-set_other (h ++ IV) 12 14 (bit_xor (get_or (h ++ IV) 12 0) t) 0 (λ q. omega arith), word h 6 long) (lit< tt) in
+      work_vector-word h t true long fits
+      ∙ ap (λ (v : List ℕ). set v 14 (xor (get_or v 14 0) (2 ^ 64 - 1))) counted-xor
+      ∙ ap (λ (x : ℕ). set counted 14 x) (sym (xor_is (get_or counted 14 0) (2 ^ 64 - 1) small (lit< tt)))

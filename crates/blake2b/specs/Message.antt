@@ -14,6 +14,10 @@ pub record Lengths (key head tail : ℕ) : Type 0 where
   pub short : key ≤ 64
   pub fits : 128 + (head + tail) + 128 < 2 ^ 64
 
+-- what is hashed: the padded key, and then the message's two parts
+abbrev pub all_of : List ℕ → List ℕ → List ℕ → List ℕ
+all_of key head tail = keyed key ++ (head ++ tail)
+
 -- a block that shows the data from `at` on, after a part is laid into it that stands in the data from `from` on
 unfoldable pub laid : List ℕ → ℕ → List ℕ → ℕ → List ℕ
 laid [] at part from = []

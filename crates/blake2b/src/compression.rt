@@ -3,7 +3,7 @@ ghost use Rattle.std.specs.Prelude.{◌≡◌, ◌+◌, ◌<◌};
 ghost use Rattle.blake2b.specs.Constants.{IV};
 ghost use Rattle.blake2b.specs.Blake2b.{words_from, work_vector, fold_from, F};
 
-use crate::mixing::{twelve_rounds, xor};
+use crate::mixing::twelve_rounds;
 
 pub(crate) const IV: [u64; 8] = [
     0x6a09e667f3bcc908,
@@ -21,8 +21,8 @@ fn words_of(block: &[u8; 128]) -> [u64; 16]
     ensures { result ≡ words_from 16 block.now 0 }
 {
     let mut m = [0u64; 16];
-    for j in 0..16 {
-        m[j] = octets::u64_at(block, 8 * j);
+    for (j, word) in m.iter_mut().enumerate() {
+        *word = octets::u64_at(block, 8 * j);
     }
     m
 }
@@ -32,16 +32,12 @@ fn words_of(block: &[u8; 128]) -> [u64; 16]
 fn work_vector(h: &[u64; 8], t: u64, last: bool) -> [u64; 16]
     ensures { result ≡ work_vector h.now t last }
 {
-    // As a slice, since a proof learns there that h has eight words; so in `fold`.
-    let words: &[u64] = h;
     let mut v = [0u64; 16];
-    for i in 0..8 {
-        v[i] = words[i];
-        v[i + 8] = IV[i];
-    }
-    v[12] = xor(v[12], t);
+    v[..8].copy_from_slice(h);
+    v[8..].copy_from_slice(&IV);
+    v[12] ^= t;
     if last {
-        v[14] = xor(v[14], u64::MAX);
+        v[14] ^= u64::MAX;
     }
     v
 }
@@ -50,9 +46,8 @@ fn work_vector(h: &[u64; 8], t: u64, last: bool) -> [u64; 16]
 fn fold(h: &mut [u64; 8], v: &[u64; 16])
     ensures { h.new ≡ fold_from 0 h.old v.now }
 {
-    let words: &mut [u64] = h;
-    for i in 0..8 {
-        words[i] = xor(xor(words[i], v[i]), v[i + 8]);
+    for (i, word) in h.iter_mut().enumerate() {
+        *word = *word ^ v[i] ^ v[i + 8];
     }
 }
 

@@ -10,4 +10,4 @@ mod digest;
 mod message;
 mod mixing;
 
-pub use digest::{Hashed, blake2b, blake2b_headed};
+pub use digest::{HashError, blake2b, blake2b_headed};

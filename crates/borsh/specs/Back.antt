@@ -1,16 +1,13 @@
 -- Reading and writing, both ways: what was written is read back, and what was read stands there as its encoding. Each law speaks of the bytes from
 -- a place on, as an encoding followed by the rest, so that the laws of a whole record are laws of its fields one after the other. Assumes nothing.
-use Rattle.std.specs.Prelude.{◌≡◌, refl, Bool, true, false, List, ◌++◌, ℕ, ◌+◌, ◌-◌, ◌≤◌, ◌<◌, ◌^◌, leb, length, take, drop}
+use Rattle.std.specs.Prelude.{◌≡◌, refl, Bool, true, false, Option, Some, None, List, ◌++◌, ℕ, ◌+◌, ◌-◌, ◌≤◌, ◌<◌, ◌^◌, leb, length, take, drop}
 use Rattle.std.proofs.Common.{sym, ap, ◌∙◌, append_assoc, add-zero, arith, le-leb, leb-true, leb-false, length-append, take-append-drop, drop-drop}
 use Rattle.std.proofs.lemmas.Bool.{lt-leb}
 use Rattle.std.proofs.Math.Seq.{drop-append_seam}
 use Rattle.octets.specs.Bytes.{length_part}
 use Rattle.octets.specs.Number.{le, num_at, length-le, le-num_at, num_at-le, num_at-lt, num_at-drop, Bytes as AllBytes}
-use Rattle.borsh.specs.declared.Cursor.{Cursor}
-use Rattle.borsh.specs.declared.TakenNumber.TheVariants.{Number, ShortNumber}
-use Rattle.borsh.specs.declared.TakenBytes.TheVariants.{Bytes, ShortBytes}
 use Rattle.borsh.specs.Encoding.{vec}
-use Rattle.borsh.specs.Taking.{cursor, take_number, take_array, take_vec}
+use Rattle.borsh.specs.Taking.{Span, span, take_number, take_array, take_vec}
 
 -- ---- the ways out
 
@@ -23,20 +20,20 @@ leb-left at n m h = by (leb n (m - at)) refl
     by false e = let l = leb-false n (m - at) e in sym (lt-leb (at + n) m (omega arith))
 
 module _ (k : ℕ) (s : List ℕ) (at : ℕ) where
-  pub take-number-fits : at + k ≤ length s → take_number k s at ≡ Number (num_at k s at) (cursor (at + k))
+  pub take-number-fits : at + k ≤ length s → take_number k s at ≡ Some (num_at k s at, at + k)
   unfolding take_number
   take-number-fits h = rw (le-leb (at + k) (length s) h)
 
-  pub take-number-short : length s < at + k → take_number k s at ≡ ShortNumber
+  pub take-number-short : length s < at + k → take_number k s at ≡ None
   unfolding take_number
   take-number-short h = rw (lt-leb (at + k) (length s) h)
 
 module _ (n : ℕ) (s : List ℕ) (at : ℕ) where
-  pub take-array-fits : at + n ≤ length s → take_array n s at ≡ Bytes at n (cursor (at + n))
+  pub take-array-fits : at + n ≤ length s → take_array n s at ≡ Some (span at n (at + n))
   unfolding take_array
   take-array-fits h = rw (le-leb (at + n) (length s) h)
 
-  pub take-array-short : length s < at + n → take_array n s at ≡ ShortBytes
+  pub take-array-short : length s < at + n → take_array n s at ≡ None
   unfolding take_array
   take-array-short h = rw (lt-leb (at + n) (length s) h)
 
@@ -45,12 +42,12 @@ module _ (s : List ℕ) (at : ℕ) where
   unfolding take_vec
   take-vec-fits h = rw (le-leb (at + 4) (length s) h)
 
-  pub take-vec-short : length s < at + 4 → take_vec s at ≡ ShortBytes
+  pub take-vec-short : length s < at + 4 → take_vec s at ≡ None
   unfolding take_vec
   take-vec-short h = rw (lt-leb (at + 4) (length s) h)
 
   -- the length stands there, and not all of the bytes
-  pub take-vec-cut : at + 4 ≤ length s → length s < at + 4 + num_at 4 s at → take_vec s at ≡ ShortBytes
+  pub take-vec-cut : at + 4 ≤ length s → length s < at + 4 + num_at 4 s at → take_vec s at ≡ None
   take-vec-cut h l = take-vec-fits h ∙ take-array-short (num_at 4 s at) s (at + 4) l
 
 -- ---- what was written is read
@@ -62,16 +59,16 @@ num_at-seam k pre v rest f =
     ∙ ap (λ (l : List ℕ). num_at k l 0) (drop-append_seam pre (le k v ++ rest))
     ∙ num_at-le k v rest f
 
-pub take-number-back : (k : ℕ) (pre : List ℕ) (v : ℕ) (rest : List ℕ) → v < 256 ^ k → take_number k (pre ++ (le k v ++ rest)) (length pre) ≡ Number v (cursor (length pre + k))
+pub take-number-back : (k : ℕ) (pre : List ℕ) (v : ℕ) (rest : List ℕ) → v < 256 ^ k → take_number k (pre ++ (le k v ++ rest)) (length pre) ≡ Some (v, length pre + k)
 take-number-back k pre v rest f =
     take-number-fits k (pre ++ (le k v ++ rest)) (length pre) (simp (length-append, length-le) (omega arith))
-    ∙ ap (λ (n : ℕ). Number n (cursor (length pre + k))) (num_at-seam k pre v rest f)
+    ∙ ap (λ (n : ℕ). Some (n, length pre + k)) (num_at-seam k pre v rest f)
 
-pub take-array-back : (pre bs rest : List ℕ) → take_array (length bs) (pre ++ (bs ++ rest)) (length pre) ≡ Bytes (length pre) (length bs) (cursor (length pre + length bs))
+pub take-array-back : (pre bs rest : List ℕ) → take_array (length bs) (pre ++ (bs ++ rest)) (length pre) ≡ Some (span (length pre) (length bs) (length pre + length bs))
 take-array-back pre bs rest =
     take-array-fits (length bs) (pre ++ (bs ++ rest)) (length pre) (simp length-append (omega arith))
 
-pub take-vec-back : (pre bs rest : List ℕ) → length bs < 256 ^ 4 → take_vec (pre ++ (vec bs ++ rest)) (length pre) ≡ Bytes (length pre + 4) (length bs) (cursor (length pre + 4 + length bs))
+pub take-vec-back : (pre bs rest : List ℕ) → length bs < 256 ^ 4 → take_vec (pre ++ (vec bs ++ rest)) (length pre) ≡ Some (span (length pre + 4) (length bs) (length pre + 4 + length bs))
 unfolding vec
 take-vec-back pre bs rest f =
     let s = pre ++ ((le 4 (length bs) ++ bs) ++ rest) in
@@ -129,33 +126,35 @@ array_at n s at h = record {
   long = length_part n s at h;
 }
 
-pub take-number-was : (k : ℕ) (s : List ℕ) (at : ℕ) {v : ℕ} {c : Cursor} → AllBytes s → take_number k s at ≡ Number v c → TakenNumberAt k s at v c.at
+pub take-number-was : (k : ℕ) (s : List ℕ) (at : ℕ) {v : ℕ} {c : ℕ} → AllBytes s → take_number k s at ≡ Some (v, c) → TakenNumberAt k s at v c
 take-number-was k s at {v} {c} p e = by (leb (at + k) (length s)) refl
   where
-    by : (t : Bool) → leb (at + k) (length s) ≡ t → TakenNumberAt k s at v c.at
+    by : (t : Bool) → leb (at + k) (length s) ≡ t → TakenNumberAt k s at v c
     by true q =
         let h = leb-true (at + k) (length s) q in
-        let same : Number (num_at k s at) (cursor (at + k)) ≡ Number v c = sym (take-number-fits k s at h) ∙ e in
-        let number : num_at k s at ≡ v = cc in
-        let place : cursor (at + k) ≡ c = cc in
+        let same : ◌≡◌ {A = Option (ℕ × ℕ)} (Some (num_at k s at, at + k)) (Some (v, c)) = sym (take-number-fits k s at h) ∙ e in
+        let both : ◌≡◌ {A = ℕ × ℕ} (num_at k s at, at + k) (v, c) = cc in
+        let number : num_at k s at ≡ v = ap (λ (p : ℕ × ℕ). p.0) both in
+        let place : at + k ≡ c = ap (λ (p : ℕ × ℕ). p.1) both in
         rw (← number, ← place) (number_at k s at p h)
     by false q =
-        let same : ShortNumber ≡ Number v c = sym (take-number-short k s at (leb-false (at + k) (length s) q)) ∙ e in
+        let same : ◌≡◌ {A = Option (ℕ × ℕ)} None (Some (v, c)) = sym (take-number-short k s at (leb-false (at + k) (length s) q)) ∙ e in
         let z : ◌≡◌ {A = ℕ} 0 1 = cc in absurd (omega arith)
 
-pub take-array-was : (n : ℕ) (s : List ℕ) (at : ℕ) {start len : ℕ} {c : Cursor} → take_array n s at ≡ Bytes start len c → TakenArrayAt n s at start len c.at
+pub take-array-was : (n : ℕ) (s : List ℕ) (at : ℕ) {start len : ℕ} {c : ℕ} → take_array n s at ≡ Some (span start len c) → TakenArrayAt n s at start len c
 take-array-was n s at {start} {len} {c} e = by (leb (at + n) (length s)) refl
   where
-    by : (t : Bool) → leb (at + n) (length s) ≡ t → TakenArrayAt n s at start len c.at
+    by : (t : Bool) → leb (at + n) (length s) ≡ t → TakenArrayAt n s at start len c
     by true q =
         let h = leb-true (at + n) (length s) q in
-        let same : Bytes at n (cursor (at + n)) ≡ Bytes start len c = sym (take-array-fits n s at h) ∙ e in
-        let begin : at ≡ start = cc in
-        let size : n ≡ len = cc in
-        let place : cursor (at + n) ≡ c = cc in
+        let same : ◌≡◌ {A = Option Span} (Some (span at n (at + n))) (Some (span start len c)) = sym (take-array-fits n s at h) ∙ e in
+        let all : span at n (at + n) ≡ span start len c = cc in
+        let begin : at ≡ start = ap (λ (x : Span). x.start) all in
+        let size : n ≡ len = ap (λ (x : Span). x.len) all in
+        let place : at + n ≡ c = ap (λ (x : Span). x.next) all in
         rw (← place, ← size, ← begin) (array_at n s at h)
     by false q =
-        let same : ShortBytes ≡ Bytes start len c = sym (take-array-short n s at (leb-false (at + n) (length s) q)) ∙ e in
+        let same : ◌≡◌ {A = Option Span} None (Some (span start len c)) = sym (take-array-short n s at (leb-false (at + n) (length s) q)) ∙ e in
         let z : ◌≡◌ {A = ℕ} 0 1 = cc in absurd (omega arith)
 
 -- a length read, and as many bytes behind it
@@ -182,22 +181,22 @@ record VecParts (s : List ℕ) (at start n next : ℕ) : Type 0 where
   head : at + 4 ≤ length s
   body : TakenArrayAt (num_at 4 s at) s (at + 4) start n next
 
-vec-parts : (s : List ℕ) (at : ℕ) {start n : ℕ} {c : Cursor} → take_vec s at ≡ Bytes start n c → VecParts s at start n c.at
+vec-parts : (s : List ℕ) (at : ℕ) {start n : ℕ} {c : ℕ} → take_vec s at ≡ Some (span start n c) → VecParts s at start n c
 vec-parts s at {start} {n} {c} e = by (leb (at + 4) (length s)) refl
   where
-    by : (t : Bool) → leb (at + 4) (length s) ≡ t → VecParts s at start n c.at
+    by : (t : Bool) → leb (at + 4) (length s) ≡ t → VecParts s at start n c
     by true q =
         let h = leb-true (at + 4) (length s) q in
         record { head = h; body = take-array-was (num_at 4 s at) s (at + 4) (sym (take-vec-fits s at h) ∙ e) }
     by false q =
-        let same : ShortBytes ≡ Bytes start n c = sym (take-vec-short s at (leb-false (at + 4) (length s) q)) ∙ e in
+        let same : ◌≡◌ {A = Option Span} None (Some (span start n c)) = sym (take-vec-short s at (leb-false (at + 4) (length s) q)) ∙ e in
         let z : ◌≡◌ {A = ℕ} 0 1 = cc in absurd (omega arith)
 
-pub take-vec-was : (s : List ℕ) (at : ℕ) {start n : ℕ} {c : Cursor} → AllBytes s → take_vec s at ≡ Bytes start n c → TakenVecAt s at start n c.at
-take-vec-was s at {start} {n} {c} p e = let v = vec-parts s at e in vec-at s at start n c.at p v.head v.body
+pub take-vec-was : (s : List ℕ) (at : ℕ) {start n : ℕ} {c : ℕ} → AllBytes s → take_vec s at ≡ Some (span start n c) → TakenVecAt s at start n c
+take-vec-was s at {start} {n} {c} p e = let v = vec-parts s at e in vec-at s at start n c p v.head v.body
 
 -- the bytes of a vector lie inside, whatever they are
-pub take-vec-inside : (s : List ℕ) (at : ℕ) {start n : ℕ} {c : Cursor} → take_vec s at ≡ Bytes start n c → start + n ≤ length s
+pub take-vec-inside : (s : List ℕ) (at : ℕ) {start n : ℕ} {c : ℕ} → take_vec s at ≡ Some (span start n c) → start + n ≤ length s
 take-vec-inside s at e =
     let a = (vec-parts s at e).body in
     omega (arith, a.begins, a.size, a.ends, a.fits)

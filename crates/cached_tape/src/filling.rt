@@ -9,8 +9,7 @@ use ring_buffer::RingBuffer;
 pub fn first_cached(capacity: u64, len: u64, start: u64) -> u64
     ensures { result ≡ first_cached capacity len start }
 {
-    let top = components::above(len, capacity);
-    top.max(start)
+    len.saturating_sub(capacity).max(start)
 }
 
 // A new ring of a capacity with these bytes of the tape from an index on.
@@ -19,6 +18,6 @@ pub fn fill_cache(session: &mut [u8], tape: usize, capacity: usize, first: u64, 
     ensures { session.new ≡ filled_with session.old tape capacity first src.now }
 {
     session::fill_ring(session, tape, 0, src);
-    let ring = RingBuffer::new(capacity, first);
-    session::put_ring(session, tape, ring.reset(src.len(), first));
+    let ring = RingBuffer::new(capacity, first).reset(src.len(), first);
+    session::put_ring(session, tape, ring);
 }

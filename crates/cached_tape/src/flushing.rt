@@ -46,10 +46,8 @@ fn write_last(disk: &mut [u8], session: &[u8], place: usize, tape: usize, offset
     requires { ((Sound disk.old × Begun session.now) × ((place < 8) × (tape < 8))) × ((handle_number session.now tape ≢ 0) × ((count ≤ ring_len session.now tape) × (offset + count < 2 ^ 64))) }
     ensures { disk.new ≡ write_run disk.old place (file_size_of session.now tape) offset (unwritten_bytes session.now tape count) }
 {
-    let handle = session::get_handle(session, tape);
-    let file_size = handle.file_size;
-    let ring = session::get_ring(session, tape);
-    let last = ring.last(count);
+    let file_size = session::get_handle(session, tape).file_size;
+    let last = session::get_ring(session, tape).last(count);
     let bytes = session::ring_part(session, tape);
     let first = ring_buffer::first_part(last, bytes);
     rolling_tape::write_run(disk, place, file_size, offset, first);
@@ -64,8 +62,8 @@ pub fn flush(disk: &mut [u8], session: &mut [u8], place: usize, tape: usize, row
     ensures { flushed (areas disk.old session.old) place tape row ≡ areas disk.new session.new }
 {
     let count = row.unwritten;
-    let offset = components::above(row.len, count as u64);
-    let handle = session::get_handle(session, tape);
-    cover_run(disk, session, place, handle.file_size, offset, count);
+    let offset = row.len.saturating_sub(count as u64);
+    let file_size = session::get_handle(session, tape).file_size;
+    cover_run(disk, session, place, file_size, offset, count);
     write_last(disk, session, place, tape, offset, count);
 }

@@ -16,13 +16,12 @@ fn send(disk: &mut [u8], session: &mut [u8], place: usize, tape: usize, row: Sta
     requires { ((Sound disk.old × Begun session.old) × ((place < 8) × (tape < 8))) × ((handle_number session.old tape ≢ 0) × ((row.unwritten ≤ ring_len session.old tape) × (row.len + length src.now < 2 ^ 64))) }
     ensures { sent_to (areas disk.old session.old) place tape row src.now ≡ areas disk.new session.new }
 {
-    let ring = session::get_ring(session, tape);
-    let capacity = ring.capacity;
+    let capacity = session::get_ring(session, tape).capacity;
     let n = src.len();
     if capacity <= n {
         flush(disk, session, place, tape, row);
-        let handle = session::get_handle(session, tape);
-        write_through(disk, session, place, handle.file_size, row.len, src);
+        let file_size = session::get_handle(session, tape).file_size;
+        write_through(disk, session, place, file_size, row.len, src);
         return;
     }
     if capacity - n < row.unwritten {
@@ -35,8 +34,7 @@ fn cache(session: &mut [u8], tape: usize, len: u64, src: &[u8])
     requires { Begun session.old × ((tape < 8) × (handle_number session.old tape ≢ 0)) }
     ensures { session.new ≡ cached_in session.old tape len src.now }
 {
-    let before = session::get_ring(session, tape);
-    let ring = before.prepare_write(len);
+    let ring = session::get_ring(session, tape).prepare_write(len);
     let n = src.len().min(ring.capacity);
     let by = src.len() - n;
     session::push_ring(session, tape, ring, &src[by..]);
@@ -48,11 +46,10 @@ fn unwritten_after(ring: RingBuffer, unwritten: usize, n: usize) -> usize
     requires { unwritten ≤ ring.capacity }
     ensures { result ≡ unwritten_after ring unwritten n }
 {
-    let capacity = ring.capacity;
-    if capacity <= n {
+    if ring.capacity <= n {
         return 0;
     }
-    if capacity - n < unwritten {
+    if ring.capacity - n < unwritten {
         return n;
     }
     unwritten + n
@@ -79,10 +76,9 @@ pub fn put_bytes(
         tape,
         Staged {
             touched: true,
-            base: row.base,
             len: row.len + src.len() as u64,
-            start: row.start,
-            unwritten: unwritten,
+            unwritten,
+            ..row
         },
     );
 }

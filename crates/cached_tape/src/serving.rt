@@ -10,8 +10,9 @@ fn below_cache(session: &[u8], tape: usize, offset: u64, count: usize) -> usize
     requires { Begun session.now × (tape < 8) }
     ensures { result ≡ below_cache (ring_of session.now tape) offset count }
 {
-    let ring = session::get_ring(session, tape);
-    let below = components::above(ring.first, offset);
+    let below = session::get_ring(session, tape)
+        .first
+        .saturating_sub(offset);
     count.min(below as usize)
 }
 
@@ -22,9 +23,9 @@ pub fn can_serve(disk: &[u8], session: &[u8], tape: usize, offset: u64, count: u
     ensures { result ≡ can_serve disk.now session.now tape offset count }
 {
     let files = below_cache(session, tape, offset, count);
-    let handle = session::get_handle(session, tape);
+    let file_size = session::get_handle(session, tape).file_size;
     let name = session::tape_name(session, tape);
-    rolling_tape::can_read(disk, session, true, name, handle.file_size, offset, files)
+    rolling_tape::can_read(disk, session, true, name, file_size, offset, files)
 }
 
 // Fills out with a tape's bytes from an offset on.
@@ -33,11 +34,11 @@ pub fn serve(disk: &[u8], session: &[u8], tape: usize, offset: u64, out: &mut [u
     ensures { out.new ≡ served disk.now session.now tape offset (length out.old) }
 {
     let files = below_cache(session, tape, offset, out.len());
-    let handle = session::get_handle(session, tape);
+    let file_size = session::get_handle(session, tape).file_size;
     let name = session::tape_name(session, tape);
-    rolling_tape::read_run(disk, name, handle.file_size, offset, &mut out[..files]);
+    rolling_tape::read_run(disk, name, file_size, offset, &mut out[..files]);
     let ring = session::get_ring(session, tape);
     let bytes = session::ring_part(session, tape);
-    let inside = components::above(offset, ring.first);
+    let inside = offset.saturating_sub(ring.first);
     ring_buffer::fill(ring, bytes, inside, &mut out[files..]);
 }

@@ -1,4 +1,6 @@
 pub mod Pieces
+pub mod Parts
+pub mod PartsLaws
 pub mod PiecesLaws
 pub mod FileBytes
 pub mod Files

@@ -6,10 +6,7 @@ ghost use Rattle.components.specs.Bounds.{up_to, in_bounds};
 pub fn above(a: u64, b: u64) -> u64
     ensures { result ≡ a - b }
 {
-    if a < b {
-        return 0;
-    }
-    a - b
+    a.saturating_sub(b)
 }
 
 // Whether an index in entries is not past a length in bytes.
@@ -25,12 +22,9 @@ pub fn in_bounds(entry: u64, start: u64, len: u64, index: u64, count: u64) -> bo
     requires { 0 < entry }
     ensures { result ≡ in_bounds entry start len index count }
 {
-    if up_to(entry, index, len) {
-        let offset = index * entry;
-        if offset < start {
-            return false;
-        }
-        return count <= (len - offset) / entry;
+    if !up_to(entry, index, len) {
+        return false;
     }
-    false
+    let offset = index * entry;
+    start <= offset && count <= (len - offset) / entry
 }

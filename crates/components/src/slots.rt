@@ -7,8 +7,8 @@ pub fn files_covered(file_size: u64, base: u64, end: u64) -> u64
     requires { 0 < file_size }
     ensures { result ≡ covered file_size base end }
 {
-    if base < end {
-        return (end - 1) / file_size - base / file_size + 1;
+    if end <= base {
+        return 0;
     }
-    0
+    (end - 1) / file_size - base / file_size + 1
 }

@@ -23,28 +23,24 @@ pub fn find_directory(disk: &[u8], name: &[u8]) -> Option<usize>
     layout::find_name(disk, Disk::DIRECTORIES, name)
 }
 
-// A new directory in the first free place; Nothing, and no byte changed, if there is none.
+// A new directory in the first free place; None, and no byte changed, if there is none.
+#[tactic(auto, unfolding(crate::specs::Steps::add_directory))]
 pub fn add_directory(disk: &mut [u8], name: &[u8]) -> Option<usize>
     requires { Sound disk.old × (length name.now ≤ 24) }
     ensures { add_directory disk.old name.now ≡ after result disk.new }
 {
-    let free = layout::find_name(disk, Disk::DIRECTORIES, b"");
-    match free {
-        Some(place) => {
-            layout::put_name(disk, Disk::DIRECTORIES, place, name);
-            Some(place)
-        }
-        None => None,
-    }
+    let place = layout::find_name(disk, Disk::DIRECTORIES, b"")?;
+    layout::put_name(disk, Disk::DIRECTORIES, place, name);
+    Some(place)
 }
 
 // Removes a slot's file if it is this directory's.
+#[tactic(auto, unfolding(crate::specs::Steps::empty_slot, crate::specs::Steps::entry_of))]
 fn empty_slot(disk: &mut [u8], place: usize, slot: usize)
     requires { Sound disk.old × ((place < 8) × (slot < slots disk.old)) }
     ensures { disk.new ≡ empty_slot place slot disk.old }
 {
-    let file = get_entry(disk, slot);
-    if file.owner == place + 1 {
+    if get_entry(disk, slot).owner == place + 1 {
         remove_file(disk, slot);
     }
 }
@@ -54,8 +50,7 @@ pub fn empty_directory(disk: &mut [u8], place: usize)
     requires { Sound disk.old × (place < 8) }
     ensures { disk.new ≡ empty_directory disk.old place }
 {
-    let count = slot_count(disk);
-    for i in 0..count {
-        empty_slot(disk, place, i);
+    for slot in 0..slot_count(disk) {
+        empty_slot(disk, place, slot);
     }
 }

@@ -27,6 +27,7 @@ fn side_len_at(side: Side) -> usize
 }
 
 // The bytes of one of them, as a part of the area.
+#[tactic(auto, unfolding(crate::specs::Steps::side_bytes))]
 pub fn side_part<'a>(disk: &'a [u8], side: Side) -> &'a [u8]
     requires { Sound disk.now }
     ensures { result.now ≡ side_bytes disk.now side }
@@ -37,6 +38,7 @@ pub fn side_part<'a>(disk: &'a [u8], side: Side) -> &'a [u8]
 }
 
 // Writes one of them from its first byte on; it never gets shorter.
+#[tactic(auto, unfolding(crate::specs::Steps::write_side))]
 pub fn write_side(disk: &mut [u8], side: Side, src: &[u8])
     requires { Sound disk.old × (length src.now ≤ 512) }
     ensures { disk.new ≡ write_side disk.old side src.now }

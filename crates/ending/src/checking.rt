@@ -6,7 +6,7 @@ ghost use Rattle.layout.specs.Disk.{Sound};
 ghost use Rattle.layout.specs.Session.{Begun};
 ghost use Rattle.ending.specs.Checking.{has_directory, all_there, is_published, is_whole, may_commit};
 
-use crate::listing::{is_touched, published_view};
+use crate::listing::{directory_of, is_touched, published_view};
 use answers::Refusal;
 use layout::Session;
 use metadata::TapeList;
@@ -16,18 +16,14 @@ fn has_directory(disk: &[u8], session: &[u8], tape: usize) -> bool
     requires { (Sound disk.now × Begun session.now) × (tape < 8) }
     ensures { result ≡ has_directory disk.now session.now tape }
 {
-    if is_touched(session, tape) {
-        let name = session::tape_name(session, tape);
-        let found = disk::find_directory(disk, name);
-        return match found {
-            Some(_) => true,
-            None => false,
-        };
+    if !is_touched(session, tape) {
+        return true;
     }
-    true
+    directory_of(disk, session, tape).is_some()
 }
 
 // Whether each tape that was touched has its directory.
+#[tactic(auto, unfolding(crate::specs::Checking::all_there))]
 fn all_there(disk: &[u8], session: &[u8]) -> bool
     requires { Sound disk.now × Begun session.now }
     ensures { result ≡ all_there disk.now session.now }
@@ -48,31 +44,29 @@ fn count_published(session: &[u8], cut: bool) -> usize
 }
 
 // Whether the list has every tape that is published, and may be stored.
+#[tactic(auto, unfolding(crate::specs::Checking::is_whole))]
 fn may_store(session: &[u8], cut: bool, list: TapeList) -> bool
     requires { Begun session.now }
     ensures { result ≡ (is_whole session.now cut list && storable list) }
 {
-    if list.count == count_published(session, cut) {
-        return metadata::is_storable(list);
-    }
-    false
+    list.count == count_published(session, cut) && metadata::is_storable(list)
 }
 
 // The new epoch, if the list may be stored. Refused: 1, 18, 16.
+#[tactic(auto, unfolding(crate::specs::Checking::may_commit))]
 pub fn may_commit(disk: &[u8], session: &[u8], cut: bool, list: TapeList) -> Result<u64, Refusal>
     requires { Sound disk.now × Begun session.now }
     ensures { result ≡ may_commit disk.now session.now cut list }
 {
-    if may_store(session, cut, list) {
-        let head = session::get_head(session);
-        let epoch = head.epoch;
-        if epoch == 0xffff_ffff_ffff_ffff {
-            return Err(Refusal::TooLarge);
-        }
-        if all_there(disk, session) {
-            return Ok(epoch + 1);
-        }
+    if !may_store(session, cut, list) {
+        return Err(Refusal::Unusable);
+    }
+    let epoch = session::get_head(session).epoch;
+    if epoch == u64::MAX {
+        return Err(Refusal::TooLarge);
+    }
+    if !all_there(disk, session) {
         return Err(Refusal::Missing);
     }
-    Err(Refusal::Unusable)
+    Ok(epoch + 1)
 }

@@ -19,6 +19,7 @@ use layout::Session;
 use metadata::TapeList;
 
 // The list published, the record written, the next epoch.
+#[tactic(auto, unfolding(crate::specs::Committing::stored))]
 fn store_list(disk: &mut [u8], session: &mut [u8], cut: bool, list: TapeList)
     requires { (Sound disk.old × Begun session.old) × ((storable list ≡ true) × ((head_of session.old).epoch + 1 < 2 ^ 64)) }
     ensures { stored disk.old session.old cut list ≡ areas disk.new session.new }
@@ -29,6 +30,7 @@ fn store_list(disk: &mut [u8], session: &mut [u8], cut: bool, list: TapeList)
 }
 
 // Data, list and record, and then marks and removal.
+#[tactic(auto, unfolding(crate::specs::Committing::ripened_append, crate::specs::Committing::stored_append))]
 fn store_append(disk: &mut [u8], session: &mut [u8], list: TapeList)
     requires { (Sound disk.old × Begun session.old) × ((storable list ≡ true) × ((head_of session.old).epoch + 1 < 2 ^ 64)) }
     ensures { ripened_append disk.old session.old list ≡ areas disk.new session.new }
@@ -40,55 +42,48 @@ fn store_append(disk: &mut [u8], session: &mut [u8], list: TapeList)
     ripen_all(disk, session, writer.epoch, oldest);
 }
 
+#[tactic(auto, unfolding(crate::specs::Committing::commit_append))]
 fn commit_append(disk: &mut [u8], session: &mut [u8]) -> Result<u64, Refusal>
     requires { Sound disk.old × Begun session.old }
     ensures { commit_append disk.old session.old ≡ outcome result disk.new session.new }
 {
     let list = next_list(session, false);
-    let answer = may_commit(disk, session, false, list);
-    match answer {
-        Ok(epoch) => {
-            if appending::no_room(disk, session, Session::MOST_TAPES, 0) {
-                return Err(Refusal::NoSlot);
-            }
-            store_append(disk, session, list);
-            close_writer(session);
-            Ok(epoch)
-        }
-        Err(why) => Err(why),
+    let epoch = may_commit(disk, session, false, list)?;
+    if appending::no_room(disk, session, None, 0) {
+        return Err(Refusal::NoSlot);
     }
+    store_append(disk, session, list);
+    close_writer(session);
+    Ok(epoch)
 }
 
+#[tactic(auto, unfolding(crate::specs::Committing::commit_truncate))]
 fn commit_truncate(disk: &mut [u8], session: &mut [u8]) -> Result<u64, Refusal>
     requires { Sound disk.old × Begun session.old }
     ensures { commit_truncate disk.old session.old ≡ outcome result disk.new session.new }
 {
     let list = next_list(session, true);
-    let answer = may_commit(disk, session, true, list);
-    match answer {
-        Ok(epoch) => {
-            store_list(disk, session, true, list);
-            cut_all(disk, session);
-            close_writer(session);
-            Ok(epoch)
-        }
-        Err(why) => Err(why),
-    }
+    let epoch = may_commit(disk, session, true, list)?;
+    store_list(disk, session, true, list);
+    cut_all(disk, session);
+    close_writer(session);
+    Ok(epoch)
 }
 
 // Commits an append or a truncate, and answers the new epoch. Refused: 1, 2, 18; on damaged memory 16
 // and 15 too.
+#[tactic(auto, unfolding(crate::specs::Committing::commit_call))]
 pub fn commit(disk: &mut [u8], session: &mut [u8], transaction: u64) -> Result<u64, Refusal>
     ensures { commit_call disk.old session.old transaction ≡ outcome result disk.new session.new }
 {
-    if beginning::is_usable(disk, session) {
-        if staging::is_writing(session, transaction) {
-            return commit_append(disk, session);
-        }
-        if staging::is_cutting(session, transaction) {
-            return commit_truncate(disk, session);
-        }
-        return Err(Refusal::Unknown);
+    if !beginning::is_usable(disk, session) {
+        return Err(Refusal::Unusable);
     }
-    Err(Refusal::Unusable)
+    if staging::is_writing(session, transaction) {
+        return commit_append(disk, session);
+    }
+    if staging::is_cutting(session, transaction) {
+        return commit_truncate(disk, session);
+    }
+    Err(Refusal::Unknown)
 }

@@ -6,27 +6,17 @@ ghost use Rattle.ending.specs.Oldest.{oldest_of};
 
 use layout::Session;
 
-// From the last place down, so that what is found so far is of the places behind. With none open it is the
-// session's epoch + 1.
+// With none open it is the session's epoch + 1.
 pub fn oldest_of(session: &[u8]) -> u64
     requires { (session_bytes ≤ length session.now) × ((head_of session.now).epoch + 1 < 2 ^ 64) }
     ensures { result ≡ oldest_of session.now }
 {
-    let head = session::get_head(session);
-    let mut oldest = head.epoch + 1;
-    let mut any = false;
-    let mut left = Session::MOST_READERS;
-    while 0 < left {
-        left -= 1;
-        if beginning::is_open(session, left) {
-            let row = session::get_transaction(session, left);
-            if any {
-                oldest = row.epoch.min(oldest);
-            } else {
-                oldest = row.epoch;
-                any = true;
-            }
+    let mut oldest: Option<u64> = None;
+    for place in 0..Session::MOST_READERS {
+        if beginning::is_open(session, place) {
+            let epoch = session::get_transaction(session, place).epoch;
+            oldest = Some(oldest.map_or(epoch, |other| other.min(epoch)));
         }
     }
-    oldest
+    oldest.unwrap_or(session::get_head(session).epoch + 1)
 }

@@ -5,19 +5,19 @@ ghost use Rattle.entries.specs.Existing.{sees, exists_call};
 
 use answers::Refusal;
 use layout::Session;
+use session::Kind;
 
 fn is_seen(session: &[u8], name: &[u8]) -> bool
     requires { Begun session.now }
     ensures { result ≡ sees session.now name.now }
 {
-    if metadata::is_name(name) {
-        let Some(tape) = session::find_tape(session, name) else {
-            return false;
-        };
-        let seen = staging::seen_by(session, Session::WRITER, tape);
-        return seen.listed;
+    if !metadata::is_name(name) {
+        return false;
     }
-    false
+    let Some(tape) = session::find_tape(session, name) else {
+        return false;
+    };
+    staging::seen_by(session, Session::WRITER, tape).listed
 }
 
 // Answers 1 if the append sees a tape of this name, else 0. Refused: 1, 2.
@@ -29,14 +29,9 @@ pub fn tape_exists(
 ) -> Result<u64, Refusal>
     ensures { result ≡ exists_call disk.now session.now transaction name.now }
 {
-    if beginning::is_usable(disk, session) {
-        if staging::is_writing(session, transaction) {
-            if is_seen(session, name) {
-                return Ok(1);
-            }
-            return Ok(0);
-        }
+    beginning::check_usable(disk, session)?;
+    if !staging::is_writer(session, Kind::Append, transaction) {
         return Err(Refusal::Unknown);
     }
-    Err(Refusal::Unusable)
+    Ok(u64::from(is_seen(session, name)))
 }

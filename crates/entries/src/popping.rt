@@ -1,13 +1,15 @@
 // The last entry of a tape, read and cut off.
-ghost use Rattle.std.specs.Prelude.{◌≡◌, ◌≢◌, ◌*◌, ◌<◌, ◌^◌};
+ghost use Rattle.std.specs.Prelude.{◌≡◌, ◌*◌, ◌<◌, ◌^◌};
 ghost use Rattle.answers.specs.Outcome.{popping};
 ghost use Rattle.layout.specs.Disk.{Sound};
-ghost use Rattle.layout.specs.Session.{Begun, handle_number, entry_size_of};
+ghost use Rattle.layout.specs.Session.{Begun, entry_size_of};
+ghost use Rattle.staging.specs.Ways.{Held};
 ghost use Rattle.entries.specs.Popping.{pop_at, pop_on, pop_call};
 
 use crate::reads::{none_for, read_on};
 use answers::Refusal;
 use layout::Session;
+use session::Kind;
 
 // The entry of an index, read and cut off with all behind it.
 fn pop_at(
@@ -17,14 +19,14 @@ fn pop_at(
     index: u64,
     out: &mut [u8],
 ) -> Result<Option<u64>, Refusal>
-    requires { (Sound disk.now × Begun session.old) × (((tape < 8) × (handle_number session.old tape ≢ 0)) × (index * entry_size_of session.old tape < 2 ^ 64)) }
+    requires { (Sound disk.now × Begun session.old) × (Held session.old tape × (index * entry_size_of session.old tape < 2 ^ 64)) }
     ensures { pop_at disk.now session.old tape index out.old ≡ popping result session.new out.new }
 {
-    let answer = read_on(disk, session, Session::WRITER, tape, index, 1, out);
-    match answer {
+    // A match and no `?`: 12 is no refusal of a pop.
+    match read_on(disk, session, Session::WRITER, tape, index, 1, out) {
         Ok(_) => {
-            let handle = session::get_handle(session, tape);
-            staging::put_len(session, tape, index * handle.entry);
+            let entry = session::get_handle(session, tape).entry;
+            staging::put_len(session, tape, index * entry);
             Ok(Some(index))
         }
         Err(why) => none_for(why),
@@ -37,19 +39,18 @@ fn pop_on(
     tape: usize,
     out: &mut [u8],
 ) -> Result<Option<u64>, Refusal>
-    requires { (Sound disk.now × Begun session.old) × ((tape < 8) × (handle_number session.old tape ≢ 0)) }
+    requires { (Sound disk.now × Begun session.old) × Held session.old tape }
     ensures { pop_on disk.now session.old tape out.old ≡ popping result session.new out.new }
 {
-    let seen = staging::seen_by(session, Session::WRITER, tape);
-    if seen.listed {
-        let handle = session::get_handle(session, tape);
-        let entries = seen.len / handle.entry;
-        if entries == 0 {
-            return Ok(None);
-        }
-        return pop_at(disk, session, tape, entries - 1, out);
+    let view = staging::seen_by(session, Session::WRITER, tape);
+    if !view.listed {
+        return Ok(None);
     }
-    Ok(None)
+    let entries = view.len / session::get_handle(session, tape).entry;
+    if entries == 0 {
+        return Ok(None);
+    }
+    pop_at(disk, session, tape, entries - 1, out)
 }
 
 // Reads the last entry and stages that it is cut off, in a truncate; none where the tape is absent or
@@ -63,14 +64,6 @@ pub fn pop_entry(
 ) -> Result<Option<u64>, Refusal>
     ensures { pop_call disk.now session.old transaction handle out.old ≡ popping result session.new out.new }
 {
-    if beginning::is_usable(disk, session) {
-        if staging::is_cutting(session, transaction) {
-            let Some(tape) = session::find_handle(session, handle) else {
-                return Err(Refusal::Unknown);
-            };
-            return pop_on(disk, session, tape, out);
-        }
-        return Err(Refusal::Unknown);
-    }
-    Err(Refusal::Unusable)
+    let tape = staging::tape_to_change(disk, session, Kind::Truncate, transaction, handle)?;
+    pop_on(disk, session, tape, out)
 }

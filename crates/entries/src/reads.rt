@@ -1,8 +1,9 @@
 // Entries read into the caller's buffer.
-ghost use Rattle.std.specs.Prelude.{◌≡◌, ◌≢◌, ◌+◌, ◌*◌, ◌≤◌, ◌<◌, ◌^◌, length};
+ghost use Rattle.std.specs.Prelude.{◌≡◌, ◌+◌, ◌*◌, ◌≤◌, ◌<◌, ◌^◌, length};
 ghost use Rattle.answers.specs.Outcome.{reading, entering};
 ghost use Rattle.layout.specs.Disk.{Sound};
-ghost use Rattle.layout.specs.Session.{Begun, handle_number, entry_size_of};
+ghost use Rattle.layout.specs.Session.{Begun, entry_size_of};
+ghost use Rattle.staging.specs.Ways.{Held};
 ghost use Rattle.entries.specs.Reads.{serve_on, read_on, read_call, none_for, one_of, entry_call};
 
 use answers::Refusal;
@@ -16,18 +17,17 @@ fn serve_on(
     count: u64,
     out: &mut [u8],
 ) -> Result<u64, Refusal>
-    requires { ((Sound disk.now × Begun session.now) × ((tape < 8) × (handle_number session.now tape ≢ 0))) × ((index * entry_size_of session.now tape + count * entry_size_of session.now tape < 2 ^ 64) × (count * entry_size_of session.now tape ≤ length out.old)) }
+    requires { ((Sound disk.now × Begun session.now) × Held session.now tape) × ((index * entry_size_of session.now tape + count * entry_size_of session.now tape < 2 ^ 64) × (count * entry_size_of session.now tape ≤ length out.old)) }
     ensures { serve_on disk.now session.now tape index count out.old ≡ reading result out.new }
 {
-    let handle = session::get_handle(session, tape);
-    let entry = handle.entry;
+    let entry = session::get_handle(session, tape).entry;
     let offset = index * entry;
     let wanted = (count * entry) as usize;
-    if cached_tape::can_serve(disk, session, tape, offset, wanted) {
-        cached_tape::serve(disk, session, tape, offset, &mut out[..wanted]);
-        return Ok(count);
+    if !cached_tape::can_serve(disk, session, tape, offset, wanted) {
+        return Err(Refusal::Missing);
     }
-    Err(Refusal::Missing)
+    cached_tape::serve(disk, session, tape, offset, &mut out[..wanted]);
+    Ok(count)
 }
 
 // As a transaction place sees the tape.
@@ -40,22 +40,18 @@ pub fn read_on(
     count: u64,
     out: &mut [u8],
 ) -> Result<u64, Refusal>
-    requires { ((Sound disk.now × Begun session.now) × (place < 17)) × ((tape < 8) × (handle_number session.now tape ≢ 0)) }
+    requires { ((Sound disk.now × Begun session.now) × (place < 17)) × Held session.now tape }
     ensures { read_on disk.now session.now place tape index count out.old ≡ reading result out.new }
 {
-    let seen = staging::seen_by(session, place, tape);
-    if seen.listed {
-        let handle = session::get_handle(session, tape);
-        let entry = handle.entry;
-        if components::in_bounds(entry, seen.start, seen.len, index, count) {
-            if (out.len() as u64) < count * entry {
-                return Err(Refusal::NotWhole);
-            }
-            return serve_on(disk, session, tape, index, count, out);
-        }
+    let view = staging::listed_by(session, place, tape)?;
+    let entry = session::get_handle(session, tape).entry;
+    if !components::in_bounds(entry, view.start, view.len, index, count) {
         return Err(Refusal::OutOfBounds);
     }
-    Err(Refusal::Absent)
+    if (out.len() as u64) < count * entry {
+        return Err(Refusal::NotWhole);
+    }
+    serve_on(disk, session, tape, index, count, out)
 }
 
 // Reads entries from an index on, and answers how many. Refused: 1, 2, 11, 12, 10, 16.
@@ -70,16 +66,8 @@ pub fn read_entries(
 ) -> Result<u64, Refusal>
     ensures { read_call disk.now session.now transaction handle index count out.old ≡ reading result out.new }
 {
-    if beginning::is_usable(disk, session) {
-        let Some(place) = session::find_transaction(session, transaction) else {
-            return Err(Refusal::Unknown);
-        };
-        let Some(tape) = session::find_handle(session, handle) else {
-            return Err(Refusal::Unknown);
-        };
-        return read_on(disk, session, place, tape, index, count, out);
-    }
-    Err(Refusal::Unusable)
+    let (place, tape) = staging::tape_to_read(disk, session, transaction, handle)?;
+    read_on(disk, session, place, tape, index, count, out)
 }
 
 // What a refused read of one entry answers: none for 12 alone.
@@ -112,6 +100,8 @@ pub fn read_entry(
 ) -> Result<Option<u64>, Refusal>
     ensures { entry_call disk.now session.now transaction handle index out.old ≡ entering result out.new }
 {
-    let answer = read_entries(disk, session, transaction, handle, index, 1, out);
-    one_of(index, answer)
+    one_of(
+        index,
+        read_entries(disk, session, transaction, handle, index, 1, out),
+    )
 }

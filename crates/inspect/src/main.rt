@@ -9,22 +9,17 @@ use metadata::{TapeList, TapeMetadata};
 use std::io;
 use std::io::Read;
 
-fn print_tape(rt: &impl Print, t: TapeMetadata) -> io::Result<()> {
-    let name = t.name;
-    let letters = t.letters;
+fn print_tape(rt: &impl Print, t: &TapeMetadata) -> io::Result<()> {
     print!(rt; "tape ")?;
-    if letters <= 24 {
-        rt.write_all(&name[..letters])?;
+    if let Some(name) = t.name.get(..t.letters) {
+        rt.write_all(name)?;
     }
     println!(rt; " len {} start {}", t.len, t.start)
 }
 
-fn print_list(rt: &impl Print, list: TapeList) -> io::Result<()> {
-    for i in 0..8 {
-        if i < list.count {
-            let t = list.tapes[i];
-            print_tape(rt, t)?;
-        }
+fn print_list(rt: &impl Print, list: &TapeList) -> io::Result<()> {
+    for t in list.tapes.iter().take(list.count) {
+        print_tape(rt, t)?;
     }
     Ok(())
 }
@@ -33,16 +28,13 @@ fn print_list(rt: &impl Print, list: TapeList) -> io::Result<()> {
 // picked.
 fn inspect(rt: &impl Print, file: &[u8]) -> io::Result<()> {
     let record = metadata::pick(&file[..0], file);
-    if record.len() == 0 {
+    if record.is_empty() {
         return println!(rt; "no record");
     }
     println!(rt; "epoch {}", metadata::epoch_of(record))?;
-    let decoded = metadata::list_of(record);
-    if decoded.readable {
-        let list = decoded.list;
-        print_list(rt, list)
-    } else {
-        println!(rt; "the list can't be read")
+    match metadata::list_of(record) {
+        Some(list) => print_list(rt, &list),
+        None => println!(rt; "the list can't be read"),
     }
 }
 
@@ -51,6 +43,7 @@ fn read_full(from: &mut impl Read, space: &mut [u8]) -> io::Result<usize>
     ensures { IfOk result (λ n. n ≤ length space.new) }
 {
     let mut done = 0;
+    // Not a `for`: a read puts as many bytes as it likes, so no counter goes up by one.
     while done < space.len() {
         let n = from.read(&mut space[done..])?;
         if n == 0 {

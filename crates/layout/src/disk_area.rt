@@ -1,7 +1,7 @@
 // The disk's area and its rule.
-ghost use Rattle.std.specs.Prelude.{◌≡◌, ◌+◌, ◌-◌, ◌≤◌, ◌<◌, leb};
+ghost use Rattle.std.specs.Prelude.{◌≡◌, ◌+◌, ◌-◌, ◌*◌, ◌≤◌, ◌<◌, leb};
 ghost use Rattle.octets.specs.First.{all};
-ghost use Rattle.layout.specs.Disk.{HeadSound, data_at, head_fits, entry_fits, slots, len, sound};
+ghost use Rattle.layout.specs.Disk.{HeadSound, data_at, head_fits, entry_fits, slots, owner, len, sound};
 ghost use Rattle.layout.specs.DiskLaws.{owners_joined};
 
 use crate::names::names_fit;
@@ -56,152 +56,128 @@ pub fn disk_bytes(slots: usize) -> usize
 }
 
 // Whether the area is long enough and its first words are in range.
+#[tactic(auto, unfolding(crate::specs::Disk::head_fits))]
 fn head_fits(disk: &[u8]) -> bool
     ensures { result ≡ head_fits disk.now }
 {
     if disk.len() < Disk::DATA {
         return false;
     }
-    if octets::u64_at(disk, 0) != Disk::MARK {
-        return false;
-    }
     let slots = octets::u64_at(disk, Disk::SLOT_COUNT) as usize;
-    if slots < 1 {
-        return false;
-    }
-    if Disk::MOST_SLOTS < slots {
-        return false;
-    }
-    if disk.len() < Disk::DATA + slots * Disk::SLOT_BYTES {
-        return false;
-    }
-    if Disk::SIDE_BYTES < octets::u64_at(disk, Disk::LEFT_LEN) as usize {
-        return false;
-    }
-    octets::u64_at(disk, Disk::RIGHT_LEN) as usize <= Disk::SIDE_BYTES
+    octets::u64_at(disk, 0) == Disk::MARK
+        && (1..=Disk::MOST_SLOTS).contains(&slots)
+        && Disk::DATA + slots * Disk::SLOT_BYTES <= disk.len()
+        && octets::u64_at(disk, Disk::LEFT_LEN) as usize <= Disk::SIDE_BYTES
+        && octets::u64_at(disk, Disk::RIGHT_LEN) as usize <= Disk::SIDE_BYTES
 }
 
-// Whether the file of a slot is no longer than the slot.
-fn length_fits(disk: &[u8], slot: usize) -> bool
-    requires { HeadSound disk.now × (slot < slots disk.now) }
-    ensures { result ≡ leb (len disk.now slot) 4096 }
-{
-    octets::u64_at(disk, Disk::ENTRIES + slot * Disk::ENTRY_BYTES + 16) as usize <= Disk::SLOT_BYTES
+// The file table of a disk whose head keeps the rule.
+#[derive(Clone, Copy)]
+struct Table<'a> {
+    disk: &'a [u8],
+    ghost head: { HeadSound disk.now },
 }
 
-// Whether the owner of a slot is a directory's place plus 1, or 0, and its file is no longer than a
-// slot.
-fn entry_fits(disk: &[u8], slot: usize) -> bool
-    requires { HeadSound disk.now × (slot < slots disk.now) }
-    ensures { result ≡ entry_fits disk.now slot }
-{
-    let owner = octets::u64_at(disk, Disk::ENTRIES + slot * Disk::ENTRY_BYTES) as usize;
-    if Disk::MOST_DIRECTORIES < owner {
-        return false;
+impl Table<'_> {
+    fn owner(&self, slot: usize) -> usize
+        requires { slot < slots self.now.disk.now }
+        ensures { result ≡ owner self.now.disk.now slot }
+    {
+        octets::u64_at(self.disk, Disk::ENTRIES + slot * Disk::ENTRY_BYTES) as usize
     }
-    length_fits(disk, slot)
-}
 
-// The same of the slots from one on up to another.
-fn each_fits(disk: &[u8], from: usize, to: usize) -> bool
-    requires { HeadSound disk.now × (to ≤ slots disk.now) }
-    ensures { result ≡ all (entry_fits disk.now) (to - from) from }
-{
-    for i in from..to {
-        if !entry_fits(disk, i) {
-            return false;
+    // Whether the file of a slot is no longer than the slot.
+    fn length_fits(&self, slot: usize) -> bool
+        requires { slot < slots self.now.disk.now }
+        ensures { result ≡ leb (len self.now.disk.now slot) 4096 }
+    {
+        let len = octets::u64_at(self.disk, Disk::ENTRIES + slot * Disk::ENTRY_BYTES + 16) as usize;
+        len <= Disk::SLOT_BYTES
+    }
+
+    // Whether the owner of a slot is a directory's place plus 1, or 0, and its file is no longer
+    // than a slot.
+    fn entry_fits(&self, slot: usize) -> bool
+        requires { slot < slots self.now.disk.now }
+        ensures { result ≡ entry_fits self.now.disk.now slot }
+    {
+        self.owner(slot) <= Disk::MOST_DIRECTORIES && self.length_fits(slot)
+    }
+
+    // The same of the slots from one on up to another.
+    fn each_fits(&self, from: usize, to: usize) -> bool
+        requires { to ≤ slots self.now.disk.now }
+        ensures { result ≡ all (entry_fits self.now.disk.now) (to - from) from }
+    {
+        octets::all(from, to, |slot| self.entry_fits(slot))
+    }
+
+    // The same of eight slots. A loop of eight turns is unrolled, so that a slot costs its two tests
+    // and no more.
+    fn eight_fit(&self, slot: usize) -> bool
+        requires { slot + 8 ≤ slots self.now.disk.now }
+        ensures { result ≡ all (entry_fits self.now.disk.now) 8 slot }
+    {
+        octets::all(slot, slot + 8, |slot| self.entry_fits(slot))
+    }
+
+    // The same of the eights from one on up to another.
+    fn eights_fit(&self, from: usize, to: usize) -> bool
+        requires { 8 * to ≤ slots self.now.disk.now }
+        ensures { result ≡ all (entry_fits self.now.disk.now) (8 * (to - from)) (8 * from) }
+    {
+        octets::all(from, to, |i| self.eight_fit(8 * i))
+    }
+
+    // The owners of eight slots joined by OR, which is no less than each of them.
+    fn owners_joined(&self, slot: usize) -> usize
+        requires { slot + 8 ≤ slots self.now.disk.now }
+        ensures { result ≡ owners_joined self.now.disk.now slot }
+    {
+        let mut joined = 0;
+        for i in 0..8 {
+            joined |= self.owner(slot + i);
         }
+        joined
     }
-    true
-}
 
-// The same of eight slots. A loop of eight turns is unrolled, so that a slot costs its two tests and no
-// more.
-fn eight_fit(disk: &[u8], slot: usize) -> bool
-    requires { HeadSound disk.now × (slot + 8 ≤ slots disk.now) }
-    ensures { result ≡ all (entry_fits disk.now) 8 slot }
-{
-    for i in 0..8 {
-        if !entry_fits(disk, slot + i) {
-            return false;
-        }
+    // What `eight_fit` says, of eight slots whose owners join to no more than 8: each owner fits
+    // then.
+    fn lengths_fit(&self, slot: usize) -> bool
+        requires { (slot + 8 ≤ slots self.now.disk.now) × (owners_joined self.now.disk.now slot ≤ 8) }
+        ensures { result ≡ all (entry_fits self.now.disk.now) 8 slot }
+    {
+        octets::all(slot, slot + 8, |slot| self.length_fits(slot))
     }
-    true
-}
 
-// What `each_fits` says, by eights.
-fn eights_fit(disk: &[u8], from: usize, to: usize) -> bool
-    requires { HeadSound disk.now × ((from ≤ to) × (to ≤ slots disk.now)) }
-    ensures { result ≡ all (entry_fits disk.now) (to - from) from }
-{
-    let mut i = from;
-    while i + 8 <= to {
-        if eight_fit(disk, i) {
-            i += 8;
-        } else {
-            return false;
+    // Whether `entry_fits` holds of all slots. Every call pays this, so the owners of eight slots are
+    // joined and the join is tested: an owner costs one instruction, where a test costs two. A join
+    // above 8 need not mean a bad owner (8 and 1 join to 9: files of the eighth directory among
+    // others'), so from there on each owner is tested.
+    fn entries_fit(&self) -> bool
+        ensures { result ≡ all (entry_fits self.now.disk.now) (slots self.now.disk.now) 0 }
+    {
+        let count = octets::u64_at(self.disk, Disk::SLOT_COUNT) as usize;
+        let eights = count / 8;
+        for i in 0..eights {
+            if Disk::MOST_DIRECTORIES < self.owners_joined(8 * i) {
+                return self.eights_fit(i, eights) && self.each_fits(8 * eights, count);
+            }
+            if !self.lengths_fit(8 * i) {
+                return false;
+            }
         }
+        self.each_fits(8 * eights, count)
     }
-    each_fits(disk, i, to)
-}
-
-// The owners of eight slots joined by OR, which is no less than each of them.
-fn owners_joined(disk: &[u8], slot: usize) -> usize
-    requires { HeadSound disk.now × (slot + 8 ≤ slots disk.now) }
-    ensures { result ≡ owners_joined disk.now slot }
-{
-    let mut joined = 0;
-    for i in 0..8 {
-        let owner = octets::u64_at(disk, Disk::ENTRIES + (slot + i) * Disk::ENTRY_BYTES) as usize;
-        joined = joined | owner;
-    }
-    joined
-}
-
-// What `eight_fit` says, of eight slots whose owners join to no more than 8: each owner fits then.
-fn lengths_fit(disk: &[u8], slot: usize) -> bool
-    requires { (HeadSound disk.now × (slot + 8 ≤ slots disk.now)) × (owners_joined disk.now slot ≤ 8) }
-    ensures { result ≡ all (entry_fits disk.now) 8 slot }
-{
-    for i in 0..8 {
-        if !length_fits(disk, slot + i) {
-            return false;
-        }
-    }
-    true
-}
-
-// Whether `entry_fits` holds of all slots. Every call pays this, so the owners of eight slots are joined
-// and the join is tested: an owner costs one instruction, where a test costs two. A join above 8 need
-// not mean a bad owner (8 and 1 join to 9: files of the eighth directory among others'), so from there
-// on each owner is tested.
-fn entries_fit(disk: &[u8]) -> bool
-    requires { HeadSound disk.now }
-    ensures { result ≡ all (entry_fits disk.now) (slots disk.now) 0 }
-{
-    let count = octets::u64_at(disk, Disk::SLOT_COUNT) as usize;
-    let mut i = 0;
-    while i + 8 <= count {
-        if Disk::MOST_DIRECTORIES < owners_joined(disk, i) {
-            return eights_fit(disk, i, count);
-        }
-        if lengths_fit(disk, i) {
-            i += 8;
-        } else {
-            return false;
-        }
-    }
-    each_fits(disk, i, count)
 }
 
 // Whether a disk's area keeps the layout rule.
+#[tactic(auto, unfolding(crate::specs::Disk::sound))]
 pub fn is_sound_disk(disk: &[u8]) -> bool
     ensures { result ≡ sound disk.now }
 {
-    if head_fits(disk) {
-        if names_fit(disk, Disk::DIRECTORIES) {
-            return entries_fit(disk);
-        }
+    if !head_fits(disk) {
+        return false;
     }
-    false
+    names_fit(disk, Disk::DIRECTORIES) && Table { disk }.entries_fit()
 }

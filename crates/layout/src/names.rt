@@ -17,15 +17,13 @@ pub fn names_fit(area: &[u8], base: usize) -> bool
     requires { base + 256 ≤ length area.now }
     ensures { result ≡ all (name_fits area.now base) 8 0 }
 {
-    for i in 0..MOST_NAMES {
-        if MOST_LETTERS < octets::u64_at(area, base + i * PLACE_BYTES) as usize {
-            return false;
-        }
-    }
-    true
+    octets::all(0, MOST_NAMES, |place| {
+        octets::u64_at(area, base + place * PLACE_BYTES) as usize <= MOST_LETTERS
+    })
 }
 
 // The name at a place, as a part of the area.
+#[tactic(auto, unfolding(crate::specs::Names::name))]
 pub fn name_at<'a>(area: &'a [u8], base: usize, place: usize) -> &'a [u8]
     requires { NamesFit area.now base × (place < 8) }
     ensures { result.now ≡ name area.now base place }
@@ -41,24 +39,20 @@ pub fn has_name(area: &[u8], base: usize, place: usize, wanted: &[u8]) -> bool
     requires { NamesFit area.now base × (place < 8) }
     ensures { result ≡ same_bytes (name area.now base place) wanted.now }
 {
-    let here = name_at(area, base, place);
-    octets::same_bytes(here, wanted)
+    octets::same_bytes(name_at(area, base, place), wanted)
 }
 
 // The first place that has this name; of the empty name, the first free place.
+#[tactic(auto, unfolding(crate::specs::Names::find_name))]
 pub fn find_name(area: &[u8], base: usize, wanted: &[u8]) -> Option<usize>
     requires { NamesFit area.now base }
     ensures { result ≡ find_name area.now base wanted.now }
 {
-    for i in 0..MOST_NAMES {
-        if has_name(area, base, i, wanted) {
-            return Some(i);
-        }
-    }
-    None
+    octets::first(0, MOST_NAMES, |place| has_name(area, base, place, wanted))
 }
 
 // A name written to a place; what stood there behind it stays.
+#[tactic(auto, unfolding(crate::specs::Names::put_name))]
 pub fn put_name(area: &mut [u8], base: usize, place: usize, wanted: &[u8])
     requires { ((base + 256 ≤ length area.old) × (place < 8)) × (length wanted.now ≤ 24) }
     ensures { area.new ≡ put_name area.old base place wanted.now }

@@ -71,26 +71,22 @@ impl Session {
 }
 
 // Whether the ring of a tape lies inside its capacity and the unwritten bytes are among the held.
+#[tactic(auto, unfolding(crate::specs::Session::ring_fits))]
 fn ring_fits(session: &[u8], tape: usize) -> bool
     requires { (38728 ≤ length session.now) × (tape < 8) }
     ensures { result ≡ ring_fits session.now tape }
 {
     let at = Session::TAPES + tape * Session::TAPE_BYTES;
-    let capacity = octets::u64_at(session, at + 24) as usize;
-    if Session::RING_BYTES < capacity {
-        return false;
-    }
-    if capacity <= octets::u64_at(session, at + 32) as usize {
+    let capacity = octets::u64_at(session, at + 24);
+    if capacity > Session::RING_BYTES as u64 || capacity <= octets::u64_at(session, at + 32) {
         return false;
     }
     let held = octets::u64_at(session, at + 40);
-    if capacity < held as usize {
-        return false;
-    }
-    octets::u64_at(session, at + 88) <= held
+    held <= capacity && octets::u64_at(session, at + 88) <= held
 }
 
 // Whether a tape's row is in range; that of a tape with no handle is not looked at.
+#[tactic(auto, unfolding(crate::specs::Session::tape_fits))]
 fn tape_fits(session: &[u8], tape: usize) -> bool
     requires { (38728 ≤ length session.now) × (tape < 8) }
     ensures { result ≡ tape_fits session.now tape }
@@ -100,32 +96,17 @@ fn tape_fits(session: &[u8], tape: usize) -> bool
         return true;
     }
     let entry = octets::u64_at(session, at + 8);
-    if entry < 1 {
-        return false;
-    }
-    if Session::MOST_ENTRY < entry {
-        return false;
-    }
     let file_size = octets::u64_at(session, at + 16);
-    if file_size < 1 {
-        return false;
-    }
-    if Session::MOST_FILE < file_size {
-        return false;
-    }
-    ring_fits(session, tape)
+    (1..=Session::MOST_ENTRY).contains(&entry)
+        && (1..=Session::MOST_FILE).contains(&file_size)
+        && ring_fits(session, tape)
 }
 
 fn tapes_fit(session: &[u8]) -> bool
     requires { 38728 ≤ length session.now }
     ensures { result ≡ all (tape_fits session.now) 8 0 }
 {
-    for i in 0..Session::MOST_TAPES {
-        if !tape_fits(session, i) {
-            return false;
-        }
-    }
-    true
+    octets::all(0, Session::MOST_TAPES, |tape| tape_fits(session, tape))
 }
 
 // The kinds of the readers' places joined by OR: no more than 1 just where each is 0 or 1.
@@ -135,8 +116,10 @@ fn readers_joined(session: &[u8]) -> u64
 {
     let mut joined = 0;
     for i in 0..Session::MOST_READERS {
-        let at = Session::TRANSACTIONS + i * Session::TRANSACTION_BYTES;
-        joined = joined | octets::u64_at(session, at);
+        joined |= octets::u64_at(
+            session,
+            Session::TRANSACTIONS + i * Session::TRANSACTION_BYTES,
+        );
     }
     joined
 }
@@ -150,50 +133,36 @@ fn kinds_fit(session: &[u8]) -> bool
     if 1 < readers_joined(session) {
         return false;
     }
-    let at = Session::TRANSACTIONS + Session::WRITER * Session::TRANSACTION_BYTES;
-    let kind = octets::u64_at(session, at);
-    if kind == 1 {
-        return false;
-    }
-    kind <= 3
+    let writer = Session::TRANSACTIONS + Session::WRITER * Session::TRANSACTION_BYTES;
+    let kind = octets::u64_at(session, writer);
+    kind != 1 && kind <= 3
 }
 
 // Whether the tables of a session are in range.
+#[tactic(auto, unfolding(crate::specs::Session::tables_fit))]
 fn tables_fit(session: &[u8]) -> bool
     requires { 38728 ≤ length session.now }
     ensures { result ≡ tables_fit session.now }
 {
-    if names_fit(session, Session::NAMES) {
-        if kinds_fit(session) {
-            return tapes_fit(session);
-        }
-    }
-    false
+    names_fit(session, Session::NAMES) && kinds_fit(session) && tapes_fit(session)
 }
 
 // Whether a session's area keeps the layout rule and a session was begun in it.
+#[tactic(auto, unfolding(crate::specs::Session::begun))]
 pub fn is_begun_session(session: &[u8]) -> bool
     ensures { result ≡ begun session.now }
 {
-    if session.len() < Session::BYTES {
-        return false;
-    }
-    if octets::u64_at(session, 0) == Session::MARK {
-        return tables_fit(session);
-    }
-    false
+    Session::BYTES <= session.len()
+        && octets::u64_at(session, 0) == Session::MARK
+        && tables_fit(session)
 }
 
 // Whether a session's area keeps the layout rule. Where no session was begun, nothing but the first
 // word is looked at.
+#[tactic(auto, unfolding(crate::specs::Session::sound))]
 pub fn is_sound_session(session: &[u8]) -> bool
     ensures { result ≡ sound session.now }
 {
-    if session.len() < Session::BYTES {
-        return false;
-    }
-    if octets::u64_at(session, 0) == 0 {
-        return true;
-    }
-    is_begun_session(session)
+    Session::BYTES <= session.len()
+        && (octets::u64_at(session, 0) == 0 || is_begun_session(session))
 }

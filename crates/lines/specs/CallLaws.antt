@@ -1,18 +1,17 @@
 -- Laws of what a line says: the two ways out of its length, and a read's bytes counted without the product. Assumes nothing.
-use Rattle.std.specs.Prelude.{◌≡◌, ◌≢◌, false, List, [], ℕ, ◌*◌, ◌/◌, ◌≤◌, ◌<◌, ltb, length, get_or}
+use Rattle.std.specs.Prelude.{◌≡◌, ◌≢◌, false, Option, None, List, [], ℕ, ◌*◌, ◌/◌, ◌≤◌, ◌<◌, ltb, length, get_or}
 use Rattle.std.proofs.Common.{sym, ◌∙◌, mul-zero, div-lt_iff_lt-mul, arith, lt-ltb, le-ltb}
 use Rattle.octets.specs.Cases.{order}
 use Rattle.lines.specs.declared.words.Word.{Word}
-use Rattle.lines.specs.declared.calls.Call.TheVariants.{Unreadable}
 use Rattle.lines.specs.Fields.{fields}
 use Rattle.lines.specs.Words.{word_of}
 use Rattle.lines.specs.Calls.{by_word, call_of}
 
-pub call_long : (line : List ℕ) → 8500 < length line → call_of line ≡ Unreadable
+pub call_long : (line : List ℕ) → 8500 < length line → call_of line ≡ None
 unfolding call_of
 call_long line l = rw (lt-ltb 8500 (length line) l)
 
-pub call-word : (line : List ℕ) (w : Word) → length line ≤ 8500 → word_of (get_or (fields line) 0 []) ≡ w → call_of line ≡ by_word w (fields line)
+pub call-word : (line : List ℕ) (w : Option Word) → length line ≤ 8500 → word_of (get_or (fields line) 0 []) ≡ w → call_of line ≡ by_word w (fields line)
 unfolding call_of
 call-word line w l e = rw (le-ltb 8500 (length line) l, e)
 

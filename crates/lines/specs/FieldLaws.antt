@@ -1,4 +1,4 @@
--- Laws of fields: the first of what is left of a line and those behind it, and the turns of the loops over a line. Assumes nothing.
+-- Laws of fields: how many they are, byte by byte, and the first of what is left of a line and those behind it. Assumes nothing.
 use Rattle.std.specs.Prelude.{◌≡◌, refl, ◌≢◌, List, [], ◌∷◌, ℕ, suc, ◌+◌, ◌-◌, ◌≤◌, ◌<◌, length, get_or, take, drop}
 use Rattle.std.proofs.Common.{sym, ap, ◌∙◌, add-one, arith, eq-eqb, ne_eqb, drop_of_length-le, length-drop, drop-cons, drop-drop}
 use Rattle.std.proofs.Math.Seq.{take-nil}

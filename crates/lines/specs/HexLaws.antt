@@ -1,5 +1,5 @@
--- Laws of hex: the ways out of the tests of a byte, the turns of the loops, and that hex and bytes are the same thing twice. Assumes nothing.
-use Rattle.std.specs.Prelude.{◌≡◌, refl, true, false, ◌&&◌, List, [], ◌∷◌, get_or, set, drop, Some}
+-- Laws of hex: the ways out of the tests of a byte, a pair at a time, and that hex and bytes are the same thing twice. Assumes nothing.
+use Rattle.std.specs.Prelude.{◌≡◌, refl, Some, true, false, ◌&&◌, List, [], ◌∷◌, get_or, set, drop}
 use Rattle.std.proofs.Common.{sym, ◌∙◌, add-one, length-drop, drop-cons}
 use Rattle.std.proofs.lemmas.Bool.{false≢true}
 use Prim.Native.Nat.{ℕ, zero, suc, ◌+◌, ◌-◌, ◌*◌, ◌/◌, ◌%◌, ◌≤◌, ◌<◌}
@@ -62,7 +62,7 @@ module _ (b : ℕ) where
   unfolding hex_digit
   letter-digit l = rw (le-ltb b 10 l)
 
--- ---- the turns of the loops, at the bytes that are left
+-- ---- a pair at a time, at the bytes that are left
 
 pair-cons : (s : List ℕ) (i : ℕ) → i + 1 < length s → drop i s ≡ get_or s i 0 ∷ get_or s (i + 1) 0 ∷ drop (i + 2) s
 pair-cons s i l =

@@ -1,10 +1,9 @@
 -- Laws of numbers as text: the turns and the ways out of the loop that reads one, the digits that are printed, and that what is printed is read again.
 -- Assumes nothing.
-use Rattle.std.specs.Prelude.{◌≡◌, refl, Bool, true, false, ◌&&◌, List, [], ◌∷◌, ◌++◌, ℕ, zero, suc, ◌+◌, ◌-◌, ◌*◌, ◌/◌, ◌%◌, ◌^◌, ◌≤◌, ◌<◌, leb, length, get_or, set, drop}
+use Rattle.std.specs.Prelude.{◌≡◌, refl, Some, None, Bool, true, false, ◌&&◌, List, [], ◌∷◌, ◌++◌, ℕ, zero, suc, ◌+◌, ◌-◌, ◌*◌, ◌/◌, ◌%◌, ◌^◌, ◌≤◌, ◌<◌, leb, length, get_or, set, drop}
 use Rattle.std.proofs.Common.{sym, ap, ◌∙◌, pow-suc, add-one, arith, drop_of_length-le, length-append, drop-cons}
 use borrow.Author.Tests.{le-leb, lt-leb, lt-ltb, le-ltb}
 use Rattle.octets.specs.Cases.{order, and_l, and_r, and_both}
-use Rattle.lines.specs.declared.number.Parsed.TheVariants.{Number, Unreadable}
 use Rattle.lines.specs.Written.{Written, written_byte, written_then}
 use Rattle.lines.specs.Numbers.{is_digit, all_digits, value_from, number_of, decimal_in, decimal_of}
 
@@ -55,19 +54,19 @@ and-false true = refl
 and-false false = refl
 
 module _ (s : List ℕ) where
-  pub number-none : length s < 1 → number_of s ≡ Unreadable
+  pub number-none : length s < 1 → number_of s ≡ None
   unfolding number_of
   number-none l = rw (lt-leb 1 (length s) l)
 
-  pub number-other : all_digits s ≡ false → number_of s ≡ Unreadable
+  pub number-other : all_digits s ≡ false → number_of s ≡ None
   unfolding number_of
   number-other e = rw (e, and-false (leb 1 (length s)))
 
-  pub number-large : 18446744073709551615 < value_from 0 s → number_of s ≡ Unreadable
+  pub number-large : 18446744073709551615 < value_from 0 s → number_of s ≡ None
   unfolding number_of
   number-large l = rw (lt-leb (value_from 0 s) 18446744073709551615 l, and-false (all_digits s), and-false (leb 1 (length s)))
 
-  pub number_read : (n : ℕ) → 1 ≤ length s → all_digits s ≡ true → value_from 0 s ≡ n → n ≤ 18446744073709551615 → number_of s ≡ Number n
+  pub number_read : (n : ℕ) → 1 ≤ length s → all_digits s ≡ true → value_from 0 s ≡ n → n ≤ 18446744073709551615 → number_of s ≡ Some n
   unfolding number_of
   number_read n l e v h = rw (v, le-leb 1 (length s) l, e, le-leb n 18446744073709551615 h)
 
@@ -167,7 +166,7 @@ long-in k n =
     (λ (h : n < 10). rw (in-last k n h) (omega arith))
     (λ (h : 10 ≤ n). rw (in-more k n h, length-append) (omega arith))
 
-pub number-of-decimal : (n : ℕ) → n < 18446744073709551616 → number_of (decimal_of n) ≡ Number n
+pub number-of-decimal : (n : ℕ) → n < 18446744073709551616 → number_of (decimal_of n) ≡ Some n
 unfolding decimal_of
 number-of-decimal n l = number_read (decimal_in 20 n) n (long-in 19 n) (digits_in 20 n) (value_in 20 n (omega arith)) (omega arith)
 

@@ -1,7 +1,5 @@
 -- Document 01, "The driver": "Numbers are decimal, at most 2^64-1". Leading zeros are read, however many, and never printed. Assumes nothing.
-use Rattle.std.specs.Prelude.{Bool, true, cond, ◌&&◌, List, [], ◌∷◌, ◌++◌, ℕ, zero, suc, ◌+◌, ◌-◌, ◌*◌, ◌/◌, ◌%◌, leb, ltb, length}
-use Rattle.lines.specs.declared.number.Parsed.{Parsed}
-use Rattle.lines.specs.declared.number.Parsed.TheVariants.{Number, Unreadable}
+use Rattle.std.specs.Prelude.{Bool, true, cond, Option, Some, None, ◌&&◌, List, [], ◌∷◌, ◌++◌, ℕ, zero, suc, ◌+◌, ◌-◌, ◌*◌, ◌/◌, ◌%◌, leb, ltb, length}
 
 -- `0` to `9`
 abbrev pub is_digit : ℕ → Bool
@@ -17,11 +15,11 @@ value_from n [] = n
 value_from n (b ∷ s) = value_from (n * 10 + (b - 48)) s
 
 -- at least one byte, digits alone, at most 2^64-1
-unfoldable pub number_of : List ℕ → Parsed
+unfoldable pub number_of : List ℕ → Option ℕ
 number_of s =
     cond (leb 1 (length s) && (all_digits s && leb (value_from 0 s) 18446744073709551615))
-    (Number (value_from 0 s))
-    Unreadable
+    (Some (value_from 0 s))
+    None
 
 -- the last k digits of n, fewer where those in front are zeros
 unfoldable pub decimal_in : ℕ → ℕ → List ℕ

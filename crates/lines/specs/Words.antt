@@ -1,8 +1,8 @@
 -- Document 01, "The driver": the word that says which call a line is. Words are spelled as their bytes. Assumes nothing.
-use Rattle.std.specs.Prelude.{cond, List, [], ◌∷◌, ℕ}
+use Rattle.std.specs.Prelude.{cond, Option, Some, None, List, [], ◌∷◌, ℕ}
 use Rattle.octets.specs.Compare.{same_bytes}
 use Rattle.lines.specs.declared.words.Word.{Word}
-use Rattle.lines.specs.declared.words.Word.TheVariants.{Format, Store, Append, Reader, Truncate, Open, Put, Shift, Cut, Read, Commit, Drop, Other}
+use Rattle.lines.specs.declared.words.Word.TheVariants.{Format, Store, Append, Reader, Truncate, Open, Put, Shift, Cut, Read, Commit, Drop}
 
 abbrev pub format : List ℕ
 format = 102 ∷ 111 ∷ 114 ∷ 109 ∷ 97 ∷ 116 ∷ []
@@ -41,23 +41,23 @@ abbrev pub drop : List ℕ
 drop = 100 ∷ 114 ∷ 111 ∷ 112 ∷ []
 
 -- those of the calls on what is open; any other bytes are no call's word
-unfoldable pub later_word : List ℕ → Word
+unfoldable pub later_word : List ℕ → Option Word
 later_word s =
-    cond (same_bytes s put) Put
-    (cond (same_bytes s shift) Shift
-    (cond (same_bytes s cut) Cut
-    (cond (same_bytes s read) Read
-    (cond (same_bytes s commit) Commit
-    (cond (same_bytes s drop) Drop
-    Other)))))
+    cond (same_bytes s put) (Some Put)
+    (cond (same_bytes s shift) (Some Shift)
+    (cond (same_bytes s cut) (Some Cut)
+    (cond (same_bytes s read) (Some Read)
+    (cond (same_bytes s commit) (Some Commit)
+    (cond (same_bytes s drop) (Some Drop)
+    None)))))
 
 -- the word of a line's first field
-unfoldable pub word_of : List ℕ → Word
+unfoldable pub word_of : List ℕ → Option Word
 word_of s =
-    cond (same_bytes s format) Format
-    (cond (same_bytes s store) Store
-    (cond (same_bytes s append) Append
-    (cond (same_bytes s reader) Reader
-    (cond (same_bytes s truncate) Truncate
-    (cond (same_bytes s «open») Open
+    cond (same_bytes s format) (Some Format)
+    (cond (same_bytes s store) (Some Store)
+    (cond (same_bytes s append) (Some Append)
+    (cond (same_bytes s reader) (Some Reader)
+    (cond (same_bytes s truncate) (Some Truncate)
+    (cond (same_bytes s «open») (Some Open)
     (later_word s))))))

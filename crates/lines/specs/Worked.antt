@@ -1,6 +1,6 @@
 -- Document 01, "The driver": the worked example, its nine lines and the nine replies to them, spelled as their bytes. One table of the definitions, proved by
 -- the one theorem `worked`. Assumes nothing.
-use Rattle.std.specs.Prelude.{◌≡◌, refl, List, [], ◌∷◌, ℕ, get_or, Some}
+use Rattle.std.specs.Prelude.{◌≡◌, refl, Some, List, [], ◌∷◌, ℕ, get_or}
 use Rattle.octets.specs.Compare.{same_bytes}
 use Rattle.lines.specs.declared.calls.Call.TheVariants.{Format, Store, Append, Reader, Open, Put, Read, Commit}
 use Rattle.lines.specs.Numbers.{all_digits, value_from, number_of, decimal_in, decimal_of}
@@ -73,15 +73,15 @@ abbrev yes : List ℕ
 yes = 121 ∷ 101 ∷ 115 ∷ []
 
 pub record Worked : Type 0 where
-  pub says1 : call_of line1 ≡ Format
-  pub says2 : call_of line2 ≡ Store
-  pub says3 : call_of line3 ≡ Append
-  pub says4 : call_of line4 ≡ Open 1 1 4 8 0
-  pub says5 : call_of line5 ≡ Put 1 1
-  pub says6 : call_of line6 ≡ Put 1 1
-  pub says7 : call_of line7 ≡ Commit 1
-  pub says8 : call_of line8 ≡ Reader
-  pub says9 : call_of line9 ≡ Read 2 1 0 6
+  pub says1 : call_of line1 ≡ Some Format
+  pub says2 : call_of line2 ≡ Some Store
+  pub says3 : call_of line3 ≡ Some Append
+  pub says4 : call_of line4 ≡ Some (Open 1 1 4 8 0)
+  pub says5 : call_of line5 ≡ Some (Put 1 1)
+  pub says6 : call_of line6 ≡ Some (Put 1 1)
+  pub says7 : call_of line7 ≡ Some (Commit 1)
+  pub says8 : call_of line8 ≡ Some Reader
+  pub says9 : call_of line9 ≡ Some (Read 2 1 0 6)
   -- what an open and a put take from their lines
   pub name : get_or (fields line4) 2 [] ≡ 118 ∷ 111 ∷ 116 ∷ 101 ∷ 115 ∷ []
   pub bytes : bytes_of_hex (get_or (fields line5) 3 []) ≡ Some yes

@@ -1,4 +1,6 @@
 // Bytes as text: two digits of 0-9 and a-f a byte. An upper-case digit is none.
+#![tactic(auto, unfolding(crate::specs::Hex::is_hex_digit, crate::specs::Hex::hex_value, crate::specs::Hex::hex_digit))]
+
 ghost use Rattle.std.specs.Prelude.{◌≡◌, ◌+◌, ◌*◌, ◌/◌, ◌≤◌, ◌<◌, length};
 ghost use Rattle.octets.specs.Bytes.{put};
 ghost use Rattle.lines.specs.Written.{Written};
@@ -7,11 +9,7 @@ ghost use Rattle.lines.specs.Hex.{is_hex_digit, hex_value, hex_digit, is_hex, he
 fn is_hex_digit(b: u8) -> bool
     ensures { result ≡ is_hex_digit b }
 {
-    match b {
-        b'0'..=b'9' => true,
-        b'a'..=b'f' => true,
-        _ => false,
-    }
+    matches!(b, b'0'..=b'9' | b'a'..=b'f')
 }
 
 // What a digit counts; 0 for any other byte.
@@ -39,21 +37,7 @@ fn hex_digit(d: u8) -> u8
 pub fn is_hex(s: &[u8]) -> bool
     ensures { result ≡ is_hex s.now }
 {
-    let mut i = 0;
-    while i < s.len() {
-        let second = i + 1;
-        if s.len() <= second {
-            return false;
-        }
-        if !is_hex_digit(s[i]) {
-            return false;
-        }
-        if !is_hex_digit(s[second]) {
-            return false;
-        }
-        i += 2;
-    }
-    true
+    s.len() % 2 == 0 && s.iter().all(|b| is_hex_digit(*b))
 }
 
 // The bytes that s is the hex of, put at the front of out. What is no digit counts 0, and a byte over
@@ -62,13 +46,8 @@ pub fn put_bytes(out: &mut [u8], s: &[u8])
     requires { length s.now / 2 ≤ length out.old }
     ensures { out.new ≡ put out.old 0 (hex_bytes s.now) }
 {
-    let n = s.len() / 2;
-    let mut i = 0;
-    while i < n {
-        let first = i * 2;
-        let second = first + 1;
-        out[i] = hex_value(s[first]) * 16 + hex_value(s[second]);
-        i += 1;
+    for (i, pair) in s.chunks_exact(2).enumerate() {
+        out[i] = hex_value(pair[0]) * 16 + hex_value(pair[1]);
     }
 }
 
@@ -77,14 +56,9 @@ pub fn put_hex(out: &mut [u8], at: usize, bytes: &[u8]) -> usize
     requires { at + length bytes.now * 2 ≤ length out.old }
     ensures { Written (hex_of bytes.now) out.old at result out.new }
 {
-    let mut end = at;
-    let mut i = 0;
-    while i < bytes.len() {
-        let b = bytes[i];
-        out[end] = hex_digit(b / 16);
-        out[end + 1] = hex_digit(b % 16);
-        end += 2;
-        i += 1;
+    for (i, b) in bytes.iter().enumerate() {
+        out[at + i * 2] = hex_digit(*b / 16);
+        out[at + i * 2 + 1] = hex_digit(*b % 16);
     }
-    end
+    at + bytes.len() * 2
 }

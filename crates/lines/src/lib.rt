@@ -14,6 +14,6 @@ mod words;
 
 pub use calls::{Call, is_long_read, parse_line};
 pub use hexadecimal::{is_hex, put_bytes, put_hex};
-pub use number::{Parsed, parse_number, put_decimal};
+pub use number::{parse_number, put_decimal};
 pub use parts::{field, field_count};
 pub use reply::{put_reply, put_unreadable_reply};

@@ -3,37 +3,21 @@ ghost use Rattle.std.specs.Prelude.{◌≡◌, ◌+◌, ◌≤◌, ◌<◌, leng
 ghost use Rattle.lines.specs.Written.{Written};
 ghost use Rattle.lines.specs.Numbers.{number_of, decimal_of};
 
-#[derive(Clone, Copy)]
-pub enum Parsed {
-    Number(u64),
-    Unreadable,
-}
-
-// The number that s says. A number that would pass 2^64-1 is found before it is formed.
-pub fn parse_number(s: &[u8]) -> Parsed
+// The number that s says, if it is one of at most 2^64-1.
+pub fn parse_number(s: &[u8]) -> Option<u64>
     ensures { result ≡ number_of s.now }
 {
-    if s.len() < 1 {
-        return Parsed::Unreadable;
+    if s.is_empty() {
+        return None;
     }
     let mut n: u64 = 0;
-    let mut i = 0;
-    while i < s.len() {
-        let b = s[i];
-        if b < b'0' {
-            return Parsed::Unreadable;
+    for b in s {
+        if !b.is_ascii_digit() {
+            return None;
         }
-        if b'9' < b {
-            return Parsed::Unreadable;
-        }
-        let d = u64::from(b - b'0');
-        if (18446744073709551615 - d) / 10 < n {
-            return Parsed::Unreadable;
-        }
-        n = n * 10 + d;
-        i += 1;
+        n = n.checked_mul(10)?.checked_add(u64::from(*b - b'0'))?;
     }
-    Parsed::Number(n)
+    Some(n)
 }
 
 // n in decimal, put into out from at on; the answer is the place behind it.

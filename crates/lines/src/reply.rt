@@ -1,4 +1,7 @@
 // The reply to a line, put at the front of a buffer. Each function answers how many bytes it is.
+// `out` and `at` stay two parameters: `put_decimal` and `put_hex` are public, and promise by the two.
+#![tactic(auto, using(crate::proofs::Lengths::lengths))]
+
 ghost use Rattle.std.specs.Prelude.{◌+◌, ◌*◌, ◌≤◌, length};
 ghost use Rattle.lines.specs.Written.{Written};
 ghost use Rattle.lines.specs.Reply.{tabbed, bytes_text, reply_of, unreadable_reply};
@@ -19,7 +22,7 @@ fn put_bytes_text(out: &mut [u8], at: usize, bytes: &[u8]) -> usize
     requires { at + 1 + length bytes.now * 2 ≤ length out.old }
     ensures { Written (bytes_text bytes.now) out.old at result out.new }
 {
-    if bytes.len() < 1 {
+    if bytes.is_empty() {
         out[at] = b'-';
         return at + 1;
     }

@@ -1,8 +1,10 @@
 // The word that a line begins with.
+#![tactic(auto, using(crate::proofs::Spelled::same_cases), unfolding(crate::specs::Words::word_of, crate::specs::Words::later_word))]
+
 ghost use Rattle.std.specs.Prelude.{◌≡◌};
 ghost use Rattle.lines.specs.Words.{word_of, later_word};
 
-#[derive(Clone, Copy)]
+#[derive(Clone, Copy, Debug, PartialEq, Eq)]
 pub enum Word {
     Format,
     Store,
@@ -16,54 +18,24 @@ pub enum Word {
     Read,
     Commit,
     Drop,
-    Other,
 }
 
-pub fn word_of(s: &[u8]) -> Word
+pub fn word_of(s: &[u8]) -> Option<Word>
     ensures { result ≡ word_of s.now }
 {
-    if octets::same_bytes(s, b"format") {
-        return Word::Format;
+    match s {
+        b"format" => Some(Word::Format),
+        b"store" => Some(Word::Store),
+        b"append" => Some(Word::Append),
+        b"reader" => Some(Word::Reader),
+        b"truncate" => Some(Word::Truncate),
+        b"open" => Some(Word::Open),
+        b"put" => Some(Word::Put),
+        b"shift" => Some(Word::Shift),
+        b"cut" => Some(Word::Cut),
+        b"read" => Some(Word::Read),
+        b"commit" => Some(Word::Commit),
+        b"drop" => Some(Word::Drop),
+        _ => None,
     }
-    if octets::same_bytes(s, b"store") {
-        return Word::Store;
-    }
-    if octets::same_bytes(s, b"append") {
-        return Word::Append;
-    }
-    if octets::same_bytes(s, b"reader") {
-        return Word::Reader;
-    }
-    if octets::same_bytes(s, b"truncate") {
-        return Word::Truncate;
-    }
-    if octets::same_bytes(s, b"open") {
-        return Word::Open;
-    }
-    later_word(s)
-}
-
-// The words of the calls on what is open.
-fn later_word(s: &[u8]) -> Word
-    ensures { result ≡ later_word s.now }
-{
-    if octets::same_bytes(s, b"put") {
-        return Word::Put;
-    }
-    if octets::same_bytes(s, b"shift") {
-        return Word::Shift;
-    }
-    if octets::same_bytes(s, b"cut") {
-        return Word::Cut;
-    }
-    if octets::same_bytes(s, b"read") {
-        return Word::Read;
-    }
-    if octets::same_bytes(s, b"commit") {
-        return Word::Commit;
-    }
-    if octets::same_bytes(s, b"drop") {
-        return Word::Drop;
-    }
-    Word::Other
 }

@@ -3,10 +3,11 @@ use mathlib.Core.Path.{◌≡◌, sym, ap, ◌∙◌}
 use mathlib.Core.List.{List, [], ◌++◌}
 use Prim.Native.Nat.{ℕ, ◌+◌}
 use native.Mathlib.Omega.{arith}
+use Rattle.std.specs.Prelude.{Result, Ok}
 use lib.ListN.{length, replicate, length-append}
 use Rattle.octets.specs.Bytes.{put, put-append, put_whole}
 use Rattle.octets.specs.Number.{put_num, length-le}
-use Rattle.blake2b.specs.declared.digest.Hashed.{Hashed}
+use Rattle.blake2b.specs.declared.digest.HashError.{HashError}
 use Rattle.blake2b.specs.Blake2b.{blake2b}
 use Rattle.blake2b.specs.Digest.{Written, written, hashed, served}
 use Rattle.blake2b.specs.Laws.{length-blake2b}
@@ -27,7 +28,7 @@ head-runs e a b h x y z =
     ∙ put_whole s (EPOCH ++ (u64 e ++ TAPES)) long
 
 -- a digest of a message that begins with the head, in an array of its own length
-pub hash-served : (e : ℕ) (head list h : List ℕ) (r : Hashed) → head ≡ EPOCH ++ (u64 e ++ TAPES) → hashed 32 [] head list (replicate 32 0) ≡ written r h → h ≡ hash_of e list
+pub hash-served : (e : ℕ) (head list h : List ℕ) (r : Result (Unit {0}) HashError) → head ≡ EPOCH ++ (u64 e ++ TAPES) → hashed 32 [] head list (replicate 32 0) ≡ written r h → h ≡ hash_of e list
 unfolding hash_of
 hash-served e head list h r x y =
     let short : length head ≡ 18 = ap length x ∙ simp (length-append, length-le) in
@@ -35,6 +36,12 @@ hash-served e head list h r x y =
     ap (λ (w : Written). w.bytes) (sym y ∙ done)
     ∙ put_whole (replicate 32 0) (blake2b 32 [] (head ++ list)) (length-blake2b 32 [] (head ++ list) (omega arith))
     ∙ ap (λ (l : List ℕ). blake2b 32 [] (l ++ list)) x
+
+-- and it is one that is served
+pub hash-done : (e : ℕ) (head list h : List ℕ) (r : Result (Unit {0}) HashError) → head ≡ EPOCH ++ (u64 e ++ TAPES) → hashed 32 [] head list (replicate 32 0) ≡ written r h → r ≡ Ok tt
+hash-done e head list h r x y =
+    let short : length head ≡ 18 = ap length x ∙ simp (length-append, length-le) in
+    ap (λ (w : Written). w.answer) (sym y ∙ served 32 [] head list (replicate 32 0) (omega arith) (omega arith) (omega arith) (omega arith) (omega arith))
 
 -- version, hash, epoch and list, one behind the other
 pub put-record-runs : (s a b c r : List ℕ) (i j k e : ℕ) (hash list : List ℕ) → hash ≡ hash_of e list → i ≡ 4 → j ≡ 36 → k ≡ 44

@@ -1,22 +1,21 @@
 -- Document 01, "The record": "Left is chosen if its epoch is larger, else right; the chosen record is handed on as the caller's own bytes (none where
 -- it counts as empty). The next write goes to the other file." Assumes nothing.
-use Rattle.std.specs.Prelude.{Bool, cond, List, [], ℕ, ◌+◌, ltb, length, take, drop}
+use Rattle.std.specs.Prelude.{Bool, cond, Option, Some, None, List, [], ℕ, ◌+◌, ltb, length, take, drop}
 use Rattle.octets.specs.Number.{num_at}
-use Rattle.metadata.specs.declared.record.Reading.{Reading}
-use Rattle.metadata.specs.declared.record.Reading.TheVariants.{Whole, Empty}
+use Rattle.metadata.specs.declared.record.Record.{Record}
 use Rattle.metadata.specs.declared.choice.Side.{Side}
 use Rattle.metadata.specs.declared.choice.Side.TheVariants.{Left, Right}
 use Rattle.metadata.specs.Decoding.{Listing, tapes, decode_list}
 use Rattle.metadata.specs.Record.{read_record}
 
-abbrev pub epoch_of : Reading → ℕ
-epoch_of (Whole epoch list) = epoch
-epoch_of Empty = 0
+abbrev pub epoch_of : Option Record → ℕ
+epoch_of (Some r) = r.epoch
+epoch_of None = 0
 
 -- the record's own bytes: 48 of its head, and its list's
-abbrev pub part_of : List ℕ → Reading → List ℕ
-part_of s (Whole epoch list) = take (48 + list) s
-part_of s Empty = []
+abbrev pub part_of : List ℕ → Option Record → List ℕ
+part_of s (Some r) = take (48 + r.list_len) s
+part_of s None = []
 
 -- the epoch in left is the larger
 unfoldable pub left_counts : List ℕ → List ℕ → Bool

@@ -1,16 +1,11 @@
 -- Document 01, "The record": version u32 = 1, hash of 32 bytes, epoch u64, the tape list as u32 length and bytes. Assumes nothing.
-use Rattle.std.specs.Prelude.{cond, List, [], ◌∷◌, ◌++◌, ℕ, take, drop}
+use Rattle.std.specs.Prelude.{cond, Option, Some, None, List, [], ◌∷◌, ◌++◌, ℕ, take, drop}
 use Rattle.octets.specs.Compare.{same_bytes}
 use Rattle.blake2b.specs.Blake2b.{blake2b}
-use Rattle.borsh.specs.declared.TakenNumber.{TakenNumber}
-use Rattle.borsh.specs.declared.TakenNumber.TheVariants.{Number, ShortNumber}
-use Rattle.borsh.specs.declared.TakenBytes.{TakenBytes}
-use Rattle.borsh.specs.declared.TakenBytes.TheVariants.{Bytes, ShortBytes}
 use Rattle.borsh.specs.Encoding.{u32, u64, array, vec}
-use Rattle.borsh.specs.Taking.{take_number, take_array, take_vec}
+use Rattle.borsh.specs.Taking.{Span, take_number, take_array, take_vec}
 use Rattle.metadata.specs.declared.list.TapeList.{TapeList}
-use Rattle.metadata.specs.declared.record.Reading.{Reading}
-use Rattle.metadata.specs.declared.record.Reading.TheVariants.{Whole, Empty}
+use Rattle.metadata.specs.declared.record.Record.{Record}
 use Rattle.metadata.specs.Tapes.{encode_list}
 use Rattle.metadata.specs.Struct.{tapes_of}
 use Rattle.metadata.specs.Encoding.{After, writes}
@@ -36,22 +31,25 @@ writes_record epoch list out = writes list (encode_record epoch (encode_list (ta
 -- ---- reading: "short data or a wrong hash counts as epoch 0 with an empty list; bytes after the record are ignored. The stored version is not
 -- looked at."
 
-abbrev pub with_list : List ℕ → ℕ → ℕ → TakenBytes → Reading
-with_list s hash epoch (Bytes list n next) =
-    cond (same_bytes (take 32 (drop hash s)) (hash_of epoch (take n (drop list s)))) (Whole epoch n) Empty
-with_list s hash epoch ShortBytes = Empty
+abbrev pub record_of : ℕ → ℕ → Record
+record_of epoch list_len = record { epoch = epoch; list_len = list_len }
 
-abbrev pub with_epoch : List ℕ → ℕ → TakenNumber → Reading
-with_epoch s hash (Number epoch next) = with_list s hash epoch (take_vec s next.at)
-with_epoch s hash ShortNumber = Empty
+abbrev pub with_list : List ℕ → ℕ → ℕ → Option Span → Option Record
+with_list s hash epoch (Some b) =
+    cond (same_bytes (take 32 (drop hash s)) (hash_of epoch (take b.len (drop b.start s)))) (Some (record_of epoch b.len)) None
+with_list s hash epoch None = None
 
-abbrev pub with_hash : List ℕ → TakenBytes → Reading
-with_hash s (Bytes hash n next) = with_epoch s hash (take_number 8 s next.at)
-with_hash s ShortBytes = Empty
+abbrev pub with_epoch : List ℕ → ℕ → Option (ℕ × ℕ) → Option Record
+with_epoch s hash (Some n) = with_list s hash n.0 (take_vec s n.1)
+with_epoch s hash None = None
 
-abbrev pub with_version : List ℕ → TakenNumber → Reading
-with_version s (Number version next) = with_hash s (take_array 32 s next.at)
-with_version s ShortNumber = Empty
+abbrev pub with_hash : List ℕ → Option Span → Option Record
+with_hash s (Some b) = with_epoch s b.start (take_number 8 s b.next)
+with_hash s None = None
 
-unfoldable pub read_record : List ℕ → Reading
+abbrev pub with_version : List ℕ → Option (ℕ × ℕ) → Option Record
+with_version s (Some n) = with_hash s (take_array 32 s n.1)
+with_version s None = None
+
+unfoldable pub read_record : List ℕ → Option Record
 read_record s = with_version s (take_number 4 s 0)

@@ -1,6 +1,6 @@
 -- The record written and read, and the record that is chosen: what was written is read back whatever stands behind it, what was read is what
 -- `encode_record` writes, and what is handed on says what was read. Assumes nothing.
-use Rattle.std.specs.Prelude.{◌≡◌, refl, Bool, true, false, cond, List, [], ◌++◌, ℕ, ◌+◌, ◌≤◌, ◌<◌, ◌^◌, leb, length, take, drop}
+use Rattle.std.specs.Prelude.{◌≡◌, refl, Bool, true, false, cond, Option, Some, None, List, [], ◌++◌, ℕ, ◌+◌, ◌≤◌, ◌<◌, ◌^◌, leb, length, take, drop}
 use Rattle.std.proofs.Common.{sym, ◌∙◌, append_assoc, arith, lt-ltb, le-ltb, leb-true, leb-false, length-append, drop_at, take_at, drop-drop, length-take-le}
 use Rattle.std.proofs.Math.Path.{ap}
 use Rattle.std.proofs.Math.Seq.{take-append_seam}
@@ -8,23 +8,19 @@ use Rattle.octets.specs.Bytes.{put, put_front, drop-take}
 use Rattle.octets.specs.Number.{le, num_at, length-le, num_at-le, num_at-drop, num_at-take, Bytes as AllBytes}
 use Rattle.octets.specs.Compare.{same_bytes, same_refl, same_true}
 use Rattle.blake2b.specs.Laws.{length-blake2b}
-use Rattle.borsh.specs.declared.Cursor.{Cursor}
-use Rattle.borsh.specs.declared.TakenNumber.TheVariants.{Number, ShortNumber}
-use Rattle.borsh.specs.declared.TakenBytes.TheVariants.{Bytes, ShortBytes}
 use Rattle.borsh.specs.Encoding.{u64, vec}
-use Rattle.borsh.specs.Taking.{take_number, take_array, take_vec}
+use Rattle.borsh.specs.Taking.{span, take_number, take_array, take_vec}
 use Rattle.borsh.specs.Laws.{length-vec}
 use Rattle.borsh.specs.Back.{take-number-fits, take-number-short, take-array-fits, take-array-short, take-vec-fits, take-vec-short, take-vec-cut, take-number-was, take-array-was, take-vec-was}
 use Rattle.metadata.specs.declared.list.TapeList.{TapeList}
-use Rattle.metadata.specs.declared.record.Reading.{Reading}
-use Rattle.metadata.specs.declared.record.Reading.TheVariants.{Whole, Empty}
+use Rattle.metadata.specs.declared.record.Record.{Record}
 use Rattle.metadata.specs.declared.choice.Side.TheVariants.{Left, Right}
 use Rattle.metadata.specs.Tapes.{Tape, encode_list, good_list}
 use Rattle.metadata.specs.Decoding.{tapes, decode_list}
 use Rattle.metadata.specs.Struct.{tapes_of, storable}
 use Rattle.metadata.specs.StructLaws.{length-encode_list, storable-good}
 use Rattle.metadata.specs.RoundTrip.{Sizes, decode-encode}
-use Rattle.metadata.specs.Record.{hash_of, encode_record, with_list, with_epoch, with_hash, with_version, read_record}
+use Rattle.metadata.specs.Record.{record_of, hash_of, encode_record, with_list, with_epoch, with_hash, with_version, read_record}
 use Rattle.metadata.specs.Choice.{epoch_of, part_of, left_counts, chosen, next_side, chosen_epoch, chosen_list}
 
 -- ---- how long
@@ -49,32 +45,32 @@ record-most e l ok =
 
 module _ (s : List ℕ) where
   -- no version
-  pub read-no-version : take_number 4 s 0 ≡ ShortNumber → read_record s ≡ Empty
+  pub read-no-version : take_number 4 s 0 ≡ None → read_record s ≡ None
   unfolding read_record
   read-no-version short = ap (with_version s) short
 
-  module _ {version : ℕ} {a : Cursor} (p : take_number 4 s 0 ≡ Number version a) where
+  module _ {version : ℕ} {a : ℕ} (p : take_number 4 s 0 ≡ Some (version, a)) where
     -- a version and no hash
-    pub read-no-hash : take_array 32 s a.at ≡ ShortBytes → read_record s ≡ Empty
+    pub read-no-hash : take_array 32 s a ≡ None → read_record s ≡ None
     unfolding read_record
     read-no-hash short = ap (with_version s) p ∙ ap (with_hash s) short
 
-    module _ {hash m : ℕ} {b : Cursor} (q : take_array 32 s a.at ≡ Bytes hash m b) where
+    module _ {hash m : ℕ} {b : ℕ} (q : take_array 32 s a ≡ Some (span hash m b)) where
       -- a hash and no epoch
-      pub read-no-epoch : take_number 8 s b.at ≡ ShortNumber → read_record s ≡ Empty
+      pub read-no-epoch : take_number 8 s b ≡ None → read_record s ≡ None
       unfolding read_record
       read-no-epoch short = ap (with_version s) p ∙ ap (with_hash s) q ∙ ap (with_epoch s hash) short
 
-      module _ {epoch : ℕ} {c : Cursor} (r : take_number 8 s b.at ≡ Number epoch c) where
+      module _ {epoch : ℕ} {c : ℕ} (r : take_number 8 s b ≡ Some (epoch, c)) where
         -- an epoch and no list
-        pub read-no-list : take_vec s c.at ≡ ShortBytes → read_record s ≡ Empty
+        pub read-no-list : take_vec s c ≡ None → read_record s ≡ None
         unfolding read_record
         read-no-list short = ap (with_version s) p ∙ ap (with_hash s) q ∙ ap (with_epoch s hash) r ∙ ap (with_list s hash epoch) short
 
         -- all of it: then the hash decides
-        pub read_all : {list n : ℕ} {d : Cursor} → take_vec s c.at ≡ Bytes list n d
+        pub read_all : {list n : ℕ} {d : ℕ} → take_vec s c ≡ Some (span list n d)
             → read_record s
-            ≡ cond (same_bytes (take 32 (drop hash s)) (hash_of epoch (take n (drop list s)))) (Whole epoch n) Empty
+            ≡ cond (same_bytes (take 32 (drop hash s)) (hash_of epoch (take n (drop list s)))) (Some (record_of epoch n)) None
         unfolding read_record
         read_all long = ap (with_version s) p ∙ ap (with_hash s) q ∙ ap (with_epoch s hash) r ∙ ap (with_list s hash epoch) long
 
@@ -82,10 +78,10 @@ module _ (s : List ℕ) where
 
 module _ (s : List ℕ) where
   -- a record that is cut short
-  pub read_short : length s < 48 + num_at 4 s 44 → read_record s ≡ Empty
+  pub read_short : length s < 48 + num_at 4 s 44 → read_record s ≡ None
   read_short h = by (leb 4 (length s)) (leb 36 (length s)) (leb 44 (length s)) (leb 48 (length s)) refl refl refl refl
     where
-      by : (a b c d : Bool) → leb 4 (length s) ≡ a → leb 36 (length s) ≡ b → leb 44 (length s) ≡ c → leb 48 (length s) ≡ d → read_record s ≡ Empty
+      by : (a b c d : Bool) → leb 4 (length s) ≡ a → leb 36 (length s) ≡ b → leb 44 (length s) ≡ c → leb 48 (length s) ≡ d → read_record s ≡ None
       by false b c d x y z w = read-no-version s (take-number-short 4 s 0 (leb-false 4 (length s) x))
       by true false c d x y z w =
           read-no-hash s (take-number-fits 4 s 0 (leb-true 4 (length s) x)) (take-array-short 32 s 4 (leb-false 36 (length s) y))
@@ -104,7 +100,7 @@ module _ (s : List ℕ) where
   -- a record that is all there: the hash decides
   pub read-long : 48 + num_at 4 s 44 ≤ length s
       → read_record s
-      ≡ cond (same_bytes (take 32 (drop 4 s)) (hash_of (num_at 8 s 36) (take (num_at 4 s 44) (drop 48 s)))) (Whole (num_at 8 s 36) (num_at 4 s 44)) Empty
+      ≡ cond (same_bytes (take 32 (drop 4 s)) (hash_of (num_at 8 s 36) (take (num_at 4 s 44) (drop 48 s)))) (Some (record_of (num_at 8 s 36) (num_at 4 s 44))) None
   read-long h =
       read_all s (take-number-fits 4 s 0 (omega arith)) (take-array-fits 32 s 4 (omega arith)) (take-number-fits 8 s 36 (omega arith))
       (take-vec-fits s 44 (omega arith) ∙ take-array-fits (num_at 4 s 44) s 48 h)
@@ -117,25 +113,26 @@ pub record Seen (s : List ℕ) (e n : ℕ) : Type 0 where
   pub hash : take 32 (drop 4 s) ≡ hash_of e (take n (drop 48 s))
 
 -- what was read stands there
-pub seen : (s : List ℕ) {e n : ℕ} → read_record s ≡ Whole e n → Seen s e n
+pub seen : (s : List ℕ) {e n : ℕ} → read_record s ≡ Some (record_of e n) → Seen s e n
 seen s {e} {n} whole = by_end (leb (48 + num_at 4 s 44) (length s)) refl
   where
-    never : read_record s ≡ Empty → Seen s e n
+    never : read_record s ≡ None → Seen s e n
     never q = let z : ◌≡◌ {A = ℕ} 0 1 = cc in absurd (omega arith)
 
     by-hash : 48 + num_at 4 s 44 ≤ length s → (t : Bool) → same_bytes (take 32 (drop 4 s)) (hash_of (num_at 8 s 36) (take (num_at 4 s 44) (drop 48 s))) ≡ t → Seen s e n
     by-hash fits true q =
-        let same : Whole (num_at 8 s 36) (num_at 4 s 44) ≡ Whole e n
-        = ap (λ (t : Bool). cond t (Whole (num_at 8 s 36) (num_at 4 s 44)) Empty) (sym q) ∙ sym (read-long s fits) ∙ whole in
-        let epoch : num_at 8 s 36 ≡ e = cc in
-        let size : num_at 4 s 44 ≡ n = cc in
+        let same : ◌≡◌ {A = Option Record} (Some (record_of (num_at 8 s 36) (num_at 4 s 44))) (Some (record_of e n))
+        = ap (λ (t : Bool). cond t (Some (record_of (num_at 8 s 36) (num_at 4 s 44))) None) (sym q) ∙ sym (read-long s fits) ∙ whole in
+        let both : record_of (num_at 8 s 36) (num_at 4 s 44) ≡ record_of e n = cc in
+        let epoch : num_at 8 s 36 ≡ e = ap (λ (r : Record). r.epoch) both in
+        let size : num_at 4 s 44 ≡ n = ap (λ (r : Record). r.list_len) both in
         record {
           ends = omega arith;
           epoch = epoch;
           size = size;
           hash = rw (← epoch, ← size) (same_true (take 32 (drop 4 s)) (hash_of (num_at 8 s 36) (take (num_at 4 s 44) (drop 48 s))) q);
         }
-    by-hash fits false q = never (read-long s fits ∙ ap (λ (t : Bool). cond t (Whole (num_at 8 s 36) (num_at 4 s 44)) Empty) q)
+    by-hash fits false q = never (read-long s fits ∙ ap (λ (t : Bool). cond t (Some (record_of (num_at 8 s 36) (num_at 4 s 44))) None) q)
 
     by_end : (t : Bool) → leb (48 + num_at 4 s 44) (length s) ≡ t → Seen s e n
     by_end true q =
@@ -145,13 +142,13 @@ seen s {e} {n} whole = by_end (leb (48 + num_at 4 s 44) (length s)) refl
     by_end false q = never (read_short s (leb-false (48 + num_at 4 s 44) (length s) q))
 
 -- and what stands there is read
-pub read-seen : (s : List ℕ) {e n : ℕ} → Seen s e n → read_record s ≡ Whole e n
+pub read-seen : (s : List ℕ) {e n : ℕ} → Seen s e n → read_record s ≡ Some (record_of e n)
 read-seen s {e} {n} r =
     let fits : 48 + num_at 4 s 44 ≤ length s = omega (arith, r.ends, r.size) in
     read-long s fits ∙ rw (r.epoch, r.size, r.hash, same_refl (hash_of e (take n (drop 48 s))))
 
 -- a record that counts ends inside its file
-pub record-ends : (s : List ℕ) {e n : ℕ} → read_record s ≡ Whole e n → 48 + n ≤ length s
+pub record-ends : (s : List ℕ) {e n : ℕ} → read_record s ≡ Some (record_of e n) → 48 + n ≤ length s
 record-ends s whole = (seen s whole).ends
 
 -- ---- what was written is read
@@ -187,7 +184,7 @@ module _ (e : ℕ) (l rest : List ℕ) where
       ∙ take-append_seam l rest
 
   -- a record that was written is read back, whatever bytes follow it
-  pub read_back : e < 2 ^ 64 → length l < 2 ^ 32 → read_record (encode_record e l ++ rest) ≡ Whole e (length l)
+  pub read_back : e < 2 ^ 64 → length l < 2 ^ 32 → read_record (encode_record e l ++ rest) ≡ Some (record_of e (length l))
   read_back f g =
       let s = encode_record e l ++ rest in
       read-seen s
@@ -201,7 +198,7 @@ module _ (e : ℕ) (l rest : List ℕ) where
       })
 
 -- the same over any older content that is long enough
-pub read-over : (e : ℕ) (l old : List ℕ) → e < 2 ^ 64 → length l < 2 ^ 32 → length (encode_record e l) ≤ length old → read_record (put old 0 (encode_record e l)) ≡ Whole e (length l)
+pub read-over : (e : ℕ) (l old : List ℕ) → e < 2 ^ 64 → length l < 2 ^ 32 → length (encode_record e l) ≤ length old → read_record (put old 0 (encode_record e l)) ≡ Some (record_of e (length l))
 read-over e l old f g room =
     ap read_record (put_front old (encode_record e l) room)
     ∙ read_back e l (drop (length (encode_record e l)) old) f g
@@ -216,7 +213,7 @@ pub record WasRecord (s : List ℕ) (e n : ℕ) : Type 0 where
   pub bytes : drop 4 s ≡ hash_of e (take n (drop 48 s)) ++ (u64 e ++ (vec (take n (drop 48 s)) ++ drop (48 + n) s))
 
 -- a record that was read is one that was written
-pub read-was : (s : List ℕ) {e n : ℕ} → AllBytes s → read_record s ≡ Whole e n → WasRecord s e n
+pub read-was : (s : List ℕ) {e n : ℕ} → AllBytes s → read_record s ≡ Some (record_of e n) → WasRecord s e n
 read-was s {e} {n} p whole =
     let r = seen s whole in
     let hash = take-array-was 32 s 4 (take-array-fits 32 s 4 (omega (arith, r.ends))) in
@@ -259,25 +256,27 @@ module _ (r : List ℕ) where
 pub chosen-epoch : (s : List ℕ) → chosen_epoch (part_of s (read_record s)) ≡ epoch_of (read_record s)
 chosen-epoch s = by (read_record s) refl
   where
-    by : (r : Reading) → read_record s ≡ r → chosen_epoch (part_of s r) ≡ epoch_of r
-    by (Whole e n) q =
-        let here = seen s q in
+    by : (r : Option Record) → read_record s ≡ r → chosen_epoch (part_of s r) ≡ epoch_of r
+    by (Some r) q =
+        let e = r.epoch in
+        let n = r.list_len in
+        let here = seen s {e = e} {n = n} q in
         let long : length (take (48 + n) s) ≡ 48 + n = length-take-le (48 + n) s here.ends in
         some-epoch (take (48 + n) s) (omega arith) ∙ num_at-take 8 s 36 (48 + n) (omega arith) ∙ here.epoch
-    by Empty q = none-epoch [] (omega arith)
+    by None q = none-epoch [] (omega arith)
 
 -- its list is the list of the record that was read
-pub chosen-list : (s : List ℕ) {e n : ℕ} → read_record s ≡ Whole e n → chosen_list (part_of s (read_record s)) ≡ decode_list (take n (drop 48 s))
+pub chosen-list : (s : List ℕ) {e n : ℕ} → read_record s ≡ Some (record_of e n) → chosen_list (part_of s (read_record s)) ≡ decode_list (take n (drop 48 s))
 chosen-list s {e} {n} whole =
     let ends = record-ends s whole in
     let long : length (take (48 + n) s) ≡ 48 + n = length-take-le (48 + n) s ends in
-    ap (λ (r : Reading). chosen_list (part_of s r)) whole
+    ap (λ (r : Option Record). chosen_list (part_of s r)) whole
     ∙ some-list (take (48 + n) s) (omega arith)
     ∙ ap decode_list (drop-take 48 n s (omega arith))
 
 -- and the empty one where nothing counts
-pub chosen_none : (s : List ℕ) → read_record s ≡ Empty → chosen_list (part_of s (read_record s)) ≡ tapes []
-chosen_none s empty = ap (λ (r : Reading). chosen_list (part_of s r)) empty ∙ none_list [] (omega arith)
+pub chosen_none : (s : List ℕ) → read_record s ≡ None → chosen_list (part_of s (read_record s)) ≡ tapes []
+chosen_none s empty = ap (λ (r : Option Record). chosen_list (part_of s r)) empty ∙ none_list [] (omega arith)
 
 -- ---- which file counts
 
@@ -309,7 +308,7 @@ abbrev pub Says : List ℕ → ℕ → List Tape → Type 0
 Says r e ts = (chosen_epoch r ≡ e) × (chosen_list r ≡ tapes ts)
 
 module _ (e : ℕ) (ts : List Tape) (rest : List ℕ) (f : e < 2 ^ 64) (good : good_list ts ≡ true) where
-  written-whole : read_record (encode_record e (encode_list ts) ++ rest) ≡ Whole e (length (encode_list ts))
+  written-whole : read_record (encode_record e (encode_list ts) ++ rest) ≡ Some (record_of e (length (encode_list ts)))
   written-whole = let most = length-encode_list ts good in read_back e (encode_list ts) rest f (omega arith)
 
   written-epoch : epoch_of (read_record (encode_record e (encode_list ts) ++ rest)) ≡ e

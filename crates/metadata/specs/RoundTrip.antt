@@ -1,18 +1,14 @@
 -- The tape list written and read: what was written is read back, and what was read is written as it stood. Assumes nothing.
 use Prim.{Unit, tt}
-use Rattle.std.specs.Prelude.{◌≡◌, refl, true, List, [], ◌∷◌, ◌++◌, ℕ, zero, suc, ◌+◌, ◌≤◌, ◌<◌, ◌^◌, length, take, drop}
+use Rattle.std.specs.Prelude.{◌≡◌, refl, true, Some, List, [], ◌∷◌, ◌++◌, ℕ, zero, suc, ◌+◌, ◌≤◌, ◌<◌, ◌^◌, length, take, drop}
 use Rattle.std.proofs.Common.{sym, ap, ◌∙◌, subst, append_assoc, arith, eq-eqb, length-append, length-drop, take-append-drop, drop_at, take_at, drop-drop, length-take-le}
 use Rattle.std.proofs.Math.Seq.{drop-length}
 use Rattle.octets.specs.Number.{le, length-le, Bytes as AllBytes}
-use Rattle.borsh.specs.declared.Cursor.{Cursor}
-use Rattle.borsh.specs.declared.TakenNumber.TheVariants.{Number}
-use Rattle.borsh.specs.declared.TakenBytes.TheVariants.{Bytes}
 use Rattle.borsh.specs.Encoding.{vec, each, sorted_map}
-use Rattle.borsh.specs.Taking.{cursor, take_number, take_vec}
+use Rattle.borsh.specs.Taking.{span, take_number, take_vec}
 use Rattle.borsh.specs.Back.{take-number-back, take-vec-back, take-number-was, take-vec-was}
-use Rattle.metadata.specs.declared.decode.TakenTape.TheVariants.{Found}
 use Rattle.metadata.specs.Tapes.{Tape, encode_tape, encode_list, fits, good_after, good_list, tape_at}
-use Rattle.metadata.specs.Decoding.{tapes, take_tape, prepend, decode_from, decode_list}
+use Rattle.metadata.specs.Decoding.{found_tape, tapes, take_tape, prepend, decode_from, decode_list}
 use Rattle.metadata.specs.DecodingLaws.{tape-found, next-found, decode-more, list_counted}
 use Rattle.metadata.specs.Rules.{tape, tape-fields, fits-true, good-first, good_others, good-cons, good-few, good-tapes, good-list}
 use Rattle.metadata.specs.Taken.{fields, step, ended, head}
@@ -45,14 +41,14 @@ at_place P s at b here law =
     let long : length (take at s) ≡ at = length-take-le at s here.inside in
     subst (λ (n : ℕ). P s n) long (subst (λ (l : List ℕ). P l (length (take at s))) whole (law (take at s)))
 
-number-stands : (k : ℕ) (s : List ℕ) (at v : ℕ) (rest : List ℕ) → v < 256 ^ k → Stands s at (le k v ++ rest) → take_number k s at ≡ Number v (cursor (at + k))
+number-stands : (k : ℕ) (s : List ℕ) (at v : ℕ) (rest : List ℕ) → v < 256 ^ k → Stands s at (le k v ++ rest) → take_number k s at ≡ Some (v, at + k)
 number-stands k s at v rest f here =
-    at_place (λ l n. take_number k l n ≡ Number v (cursor (n + k))) s at (le k v ++ rest) here
+    at_place (λ l n. take_number k l n ≡ Some (v, n + k)) s at (le k v ++ rest) here
     (λ pre. take-number-back k pre v rest f)
 
-vec-stands : (s : List ℕ) (at : ℕ) (bs rest : List ℕ) → length bs < 256 ^ 4 → Stands s at (vec bs ++ rest) → take_vec s at ≡ Bytes (at + 4) (length bs) (cursor (at + 4 + length bs))
+vec-stands : (s : List ℕ) (at : ℕ) (bs rest : List ℕ) → length bs < 256 ^ 4 → Stands s at (vec bs ++ rest) → take_vec s at ≡ Some (span (at + 4) (length bs) (at + 4 + length bs))
 vec-stands s at bs rest f here =
-    at_place (λ l n. take_vec l n ≡ Bytes (n + 4) (length bs) (cursor (n + 4 + length bs))) s at (vec bs ++ rest) here
+    at_place (λ l n. take_vec l n ≡ Some (span (n + 4) (length bs) (n + 4 + length bs))) s at (vec bs ++ rest) here
     (λ pre. take-vec-back pre bs rest f)
 
 -- ---- what was written is read
@@ -63,7 +59,7 @@ end at t = at + 4 + length t.name + 8 + 8
 
 -- a tape that stands at a place, read
 record Read (s : List ℕ) (at : ℕ) (t : Tape) (rest : List ℕ) : Type 0 where
-  found : take_tape s at ≡ Found (at + 4) (length t.name) t.len t.start (cursor (end at t))
+  found : take_tape s at ≡ Some (found_tape (at + 4) (length t.name) t.len t.start (end at t))
   name : take (length t.name) (drop (at + 4) s) ≡ t.name
   next : Stands s (end at t) rest
 
@@ -136,7 +132,7 @@ good-were zero before s at ts e = rw (ended before s at ts e).none (record { cou
 good-were (suc k) before s at ts e =
     let one = step k before s at ts e in
     let t = tape_at s one.place one.letters one.len one.start in
-    let more = good-were k t.name s one.next.at one.others one.rest in
+    let more = good-were k t.name s one.next one.others one.rest in
     rw one.all
     (record { count = ap suc more.count; good = good-cons before t one.others one.ok more.good })
 
@@ -144,7 +140,7 @@ good-were (suc k) before s at ts e =
 pub decode-good : (s : List ℕ) (ts : List Tape) → decode_list s ≡ tapes ts → good_list ts ≡ true
 decode-good s ts e =
     let h = head s ts e in
-    let g = good-were h.count [] s h.next.at ts h.rest in
+    let g = good-were h.count [] s h.next ts h.rest in
     good-list ts (rw g.count h.few) g.good
 
 -- ---- what is read was written so
@@ -154,18 +150,18 @@ record TakenTapeAt (s : List ℕ) (at : ℕ) (t : Tape) (next : ℕ) : Type 0 wh
   bytes : drop at s ≡ encode_tape t ++ drop next s
   small : t.len < 2 ^ 64
 
-take-tape-was : (s : List ℕ) (at place letters len start : ℕ) (c : Cursor) → AllBytes s → take_tape s at ≡ Found place letters len start c
-    → TakenTapeAt s at (tape_at s place letters len start) c.at
+take-tape-was : (s : List ℕ) (at place letters len start : ℕ) (c : ℕ) → AllBytes s → take_tape s at ≡ Some (found_tape place letters len start c)
+    → TakenTapeAt s at (tape_at s place letters len start) c
 take-tape-was s at place letters len start c p e =
     let f = fields s at e in
     let name = take-vec-was s at p f.name in
-    let size = take-number-was 8 s f.middle.at p f.size in
-    let first = take-number-was 8 s f.last.at p f.first in
+    let size = take-number-was 8 s f.middle p f.size in
+    let first = take-number-was 8 s f.last p f.first in
     let t = tape_at s place letters len start in
     record {
       bytes = name.bytes
           ∙ ap (λ (l : List ℕ). vec t.name ++ l) (size.bytes ∙ ap (λ (l : List ℕ). le 8 len ++ l) first.bytes)
-          ∙ sym (tape-fields t (drop c.at s));
+          ∙ sym (tape-fields t (drop c s));
       small = size.small;
     }
 
@@ -183,7 +179,7 @@ written (suc k) before s at ts p e =
     let one = step k before s at ts e in
     let t = tape_at s one.place one.letters one.len one.start in
     let here = take-tape-was s at one.place one.letters one.len one.start one.next p one.found in
-    let more = written k t.name s one.next.at one.others p one.rest in
+    let more = written k t.name s one.next one.others p one.rest in
     rw one.all
     (record { bytes = here.bytes ∙ ap (λ (l : List ℕ). encode_tape t ++ l) more.bytes; sizes = (here.small, more.sizes) })
 
@@ -192,12 +188,12 @@ pub encode-decode : (s : List ℕ) (ts : List Tape) → AllBytes s → decode_li
 unfolding encode_list sorted_map
 encode-decode s ts p e =
     let h = head s ts e in
-    let count : length ts ≡ h.count = (good-were h.count [] s h.next.at ts h.rest).count in
-    let all : drop h.next.at s ≡ each encode_tape ts = (written h.count [] s h.next.at ts p h.rest).bytes in
+    let count : length ts ≡ h.count = (good-were h.count [] s h.next ts h.rest).count in
+    let all : drop h.next s ≡ each encode_tape ts = (written h.count [] s h.next ts p h.rest).bytes in
     ap (λ (n : ℕ). le 4 n ++ each encode_tape ts) count
     ∙ ap (λ (l : List ℕ). le 4 h.count ++ l) (sym all)
     ∙ sym (take-number-was 4 s 0 p h.found).bytes
 
 -- the lengths of a list that was read are u64
 pub decode-sizes : (s : List ℕ) (ts : List Tape) → AllBytes s → decode_list s ≡ tapes ts → Sizes ts
-decode-sizes s ts p e = let h = head s ts e in (written h.count [] s h.next.at ts p h.rest).sizes
+decode-sizes s ts p e = let h = head s ts e in (written h.count [] s h.next ts p h.rest).sizes

@@ -1,8 +1,7 @@
 -- The list as the code holds it: arrays with blanks behind what they hold. Assumes nothing.
-use Rattle.std.specs.Prelude.{Bool, true, false, ◌&&◌, List, [], ◌∷◌, ◌++◌, map, ℕ, ◌-◌, leb, length, take, replicate}
+use Rattle.std.specs.Prelude.{Bool, true, ◌&&◌, Option, Some, None, List, [], ◌∷◌, ◌++◌, map, ℕ, ◌-◌, leb, length, take, replicate}
 use Rattle.metadata.specs.declared.list.TapeMetadata.{TapeMetadata}
 use Rattle.metadata.specs.declared.list.TapeList.{TapeList}
-use Rattle.metadata.specs.declared.decode.Decoded.{Decoded}
 use Rattle.metadata.specs.Tapes.{Tape, fits}
 use Rattle.metadata.specs.Decoding.{Listing, tapes, unreadable}
 
@@ -17,9 +16,9 @@ blank = record { letters = 0; name = replicate 24 0; len = 0; start = 0 }
 unfoldable pub list_of : List Tape → TapeList
 list_of ts = record { count = length ts; tapes = map stored ts ++ replicate (8 - length ts) blank }
 
-abbrev pub decoded_of : Listing → Decoded
-decoded_of (tapes ts) = record { readable = true; list = list_of ts }
-decoded_of unreadable = record { readable = false; list = list_of [] }
+abbrev pub decoded_of : Listing → Option TapeList
+decoded_of (tapes ts) = Some (list_of ts)
+decoded_of unreadable = None
 
 -- ---- from the struct to the list
 

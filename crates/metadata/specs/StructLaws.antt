@@ -1,6 +1,6 @@
 -- Laws of the list and of the struct that holds it: how long an encoding is, that the struct and the list say the same, how its arrays are filled,
 -- and the ways out of a request to write. Assumes nothing.
-use Rattle.std.specs.Prelude.{◌≡◌, refl, true, false, ◌&&◌, ℕ, zero, suc, ◌+◌, ◌-◌, ◌*◌, ◌≤◌, ◌<◌, leb, drop, set, replicate}
+use Rattle.std.specs.Prelude.{◌≡◌, refl, true, false, ◌&&◌, Result, Ok, Err, ℕ, zero, suc, ◌+◌, ◌-◌, ◌*◌, ◌≤◌, ◌<◌, leb, drop, set, replicate}
 use Rattle.std.proofs.Common.{sym, ap, ◌∙◌, arith, length-append, length-take, take_at}
 use mathlib.Core.List.{List, [], ◌∷◌, ◌++◌, map, map-append, append_assoc}
 use Rattle.std.proofs.Math.Nat.{sub-zero, zero-sub, suc-sub-suc}
@@ -15,8 +15,8 @@ use Rattle.borsh.specs.Encoding.{each}
 use Rattle.borsh.specs.Laws.{length-vec, length-sorted_map}
 use Rattle.metadata.specs.declared.list.TapeMetadata.{TapeMetadata}
 use Rattle.metadata.specs.declared.list.TapeList.{TapeList}
-use Rattle.metadata.specs.declared.encode.Encoded.{Encoded}
-use Rattle.metadata.specs.declared.encode.Encoded.TheVariants.{Written, NotStorable, NoRoom}
+use Rattle.metadata.specs.declared.encode.EncodeError.{EncodeError}
+use Rattle.metadata.specs.declared.encode.EncodeError.TheVariants.{NotStorable, NoRoom}
 use Rattle.metadata.specs.Tapes.{Tape, encode_tape, encode_list, fits, good_after, good_list}
 use Rattle.metadata.specs.Rules.{fits-true, good-first, good_others, good-cons, good-few, good-tapes, good-list}
 use Rattle.metadata.specs.Struct.{stored, blank, list_of, meaning, tapes_of, storable_after, storable}
@@ -150,19 +150,19 @@ store-next ts t i e l =
 -- ---- a request to write: the ways out, and that an answer is all that it comes to
 
 module _ (l : TapeList) (b out : List ℕ) where
-  pub writes-refused : storable l ≡ false → writes l b out ≡ after NotStorable out
+  pub writes-refused : storable l ≡ false → writes l b out ≡ after (Err NotStorable) out
   unfolding writes
   writes-refused e = rw e
 
-  pub writes_short : storable l ≡ true → length out < length b → writes l b out ≡ after NoRoom out
+  pub writes_short : storable l ≡ true → length out < length b → writes l b out ≡ after (Err NoRoom) out
   unfolding writes
   writes_short e h = rw (e, lt-leb (length b) (length out) h)
 
-  pub writes-served : storable l ≡ true → length b ≤ length out → writes l b out ≡ after (Written (length b)) (put out 0 b)
+  pub writes-served : storable l ≡ true → length b ≤ length out → writes l b out ≡ after (Ok (length b)) (put out 0 b)
   unfolding writes
   writes-served e h = rw (e, le-leb (length b) (length out) h)
 
-pub writes-unique : (l : TapeList) (b out : List ℕ) {r r' : Encoded} {x x' : List ℕ} → writes l b out ≡ after r x → writes l b out ≡ after r' x' → (r ≡ r') × (x ≡ x')
+pub writes-unique : (l : TapeList) (b out : List ℕ) {r r' : Result ℕ EncodeError} {x x' : List ℕ} → writes l b out ≡ after r x → writes l b out ≡ after r' x' → (r ≡ r') × (x ≡ x')
 writes-unique l b out p q =
     let e = sym p ∙ q in
     (ap (λ (a : After). a.answer) e, ap (λ (a : After). a.bytes) e)

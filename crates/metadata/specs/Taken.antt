@@ -1,23 +1,16 @@
 -- What a reading that succeeded says: a tape's fields and that its name lies inside, the next tape, and a list's count and tapes. Assumes nothing.
-use Rattle.std.specs.Prelude.{◌≡◌, refl, Bool, true, false, cond, List, [], ◌∷◌, ℕ, zero, suc, ◌+◌, ◌≤◌, leb, eqb, length, take, drop}
-use Rattle.std.proofs.Common.{sym, ap, ◌∙◌, arith, leb-true, leb-false, eqb-true}
+use Rattle.std.specs.Prelude.{◌≡◌, refl, Bool, true, false, cond, Option, Some, None, List, [], ◌∷◌, ℕ, zero, suc, ◌+◌, ◌≤◌, leb, eqb, length, take, drop}
+use Rattle.std.proofs.Common.{sym, ap, subst, ◌∙◌, arith, leb-true, leb-false, eqb-true}
 use Rattle.octets.specs.Bytes.{length_part}
-use Rattle.borsh.specs.declared.Cursor.{Cursor}
-use Rattle.borsh.specs.declared.TakenNumber.{TakenNumber}
-use Rattle.borsh.specs.declared.TakenNumber.TheVariants.{Number, ShortNumber}
-use Rattle.borsh.specs.declared.TakenBytes.{TakenBytes}
-use Rattle.borsh.specs.declared.TakenBytes.TheVariants.{Bytes, ShortBytes}
-use Rattle.borsh.specs.Taking.{take_number, take_vec}
+use Rattle.borsh.specs.Taking.{Span, span, take_number, take_vec}
 use Rattle.borsh.specs.Back.{take-vec-inside}
-use Rattle.metadata.specs.declared.decode.TakenTape.{TakenTape}
-use Rattle.metadata.specs.declared.decode.TakenTape.TheVariants.{Found, NotFound}
 use Rattle.metadata.specs.Tapes.{Tape, fits, tape_at, Part}
 use Rattle.metadata.specs.Rules.{fits-true}
-use Rattle.metadata.specs.Decoding.{Listing, tapes, unreadable, take_tape, next_tape, prepend, decode_from, decode_list}
+use Rattle.metadata.specs.Decoding.{FoundTape, found_tape, Listing, tapes, unreadable, take_tape, next_tape, prepend, decode_from, decode_list}
 use Rattle.metadata.specs.DecodingLaws.{tape-no-name, tape-no-len, tape-no-start, tape-found, next-none, next-refused, next-found, decode-more, decode-none, list-short, list-many, list_counted}
 
 -- the other answers
-not_found : {place letters len start : ℕ} {next : Cursor} → NotFound ≡ Found place letters len start next → ⊥
+not_found : {place letters len start : ℕ} {next : ℕ} → ◌≡◌ {A = Option FoundTape} None (Some (found_tape place letters len start next)) → ⊥
 not_found q = let z : ◌≡◌ {A = ℕ} 0 1 = cc in omega arith
 
 not-readable : {ts : List Tape} → unreadable ≡ tapes ts → ⊥
@@ -26,66 +19,69 @@ not-readable q = let z : ◌≡◌ {A = ℕ} 0 1 = cc in omega arith
 -- ---- one tape
 
 -- the three fields of a tape that was found
-pub record Fields (s : List ℕ) (at place letters len start : ℕ) (c : Cursor) : Type 0 where
-  pub middle : Cursor
-  pub last : Cursor
-  pub name : take_vec s at ≡ Bytes place letters middle
-  pub size : take_number 8 s middle.at ≡ Number len last
-  pub first : take_number 8 s last.at ≡ Number start c
+pub record Fields (s : List ℕ) (at place letters len start : ℕ) (c : ℕ) : Type 0 where
+  pub middle : ℕ
+  pub last : ℕ
+  pub name : take_vec s at ≡ Some (span place letters middle)
+  pub size : take_number 8 s middle ≡ Some (len, last)
+  pub first : take_number 8 s last ≡ Some (start, c)
 
-module _ (s : List ℕ) (at : ℕ) {place letters len start : ℕ} {c : Cursor} where
-  pub fields : take_tape s at ≡ Found place letters len start c → Fields s at place letters len start c
+module _ (s : List ℕ) (at : ℕ) {place letters len start : ℕ} {c : ℕ} where
+  pub fields : take_tape s at ≡ Some (found_tape place letters len start c) → Fields s at place letters len start c
   fields e = by_name (take_vec s at) refl
     where
-      by-start : (a b v : ℕ) (m l : Cursor) (r : TakenNumber) → take_vec s at ≡ Bytes a b m → take_number 8 s m.at ≡ Number v l → take_number 8 s l.at ≡ r
+      by-start : (a b v : ℕ) (m l : ℕ) (r : Option (ℕ × ℕ)) → take_vec s at ≡ Some (span a b m) → take_number 8 s m ≡ Some (v, l) → take_number 8 s l ≡ r
           → Fields s at place letters len start c
-      by-start a b v m l (Number w d) p q o =
-          let same : Found a b v w d ≡ Found place letters len start c = sym (tape-found s at p q o) ∙ e in
-          record { middle = m; last = l; name = cc; size = cc; first = cc }
-      by-start a b v m l ShortNumber p q o = absurd (not_found (sym (tape-no-start s at p q o) ∙ e))
+      by-start a b v m l (Some n) p q o =
+          let same : ◌≡◌ {A = Option FoundTape} (Some (found_tape a b v n.0 n.1)) (Some (found_tape place letters len start c)) = sym (tape-found s at p q o) ∙ e in
+          let all : found_tape a b v n.0 n.1 ≡ found_tape place letters len start c = cc in
+          let here : Fields s at a b v n.0 n.1 = record { middle = m; last = l; name = p; size = q; first = o } in
+          subst (λ (t : FoundTape). Fields s at t.place t.letters t.len t.start t.next) all here
+      by-start a b v m l None p q o = absurd (not_found (sym (tape-no-start s at p q o) ∙ e))
 
-      by-len : (a b : ℕ) (m : Cursor) (r : TakenNumber) → take_vec s at ≡ Bytes a b m → take_number 8 s m.at ≡ r → Fields s at place letters len start c
-      by-len a b m (Number v l) p q = by-start a b v m l (take_number 8 s l.at) p q refl
-      by-len a b m ShortNumber p q = absurd (not_found (sym (tape-no-len s at p q) ∙ e))
+      by-len : (a b : ℕ) (m : ℕ) (r : Option (ℕ × ℕ)) → take_vec s at ≡ Some (span a b m) → take_number 8 s m ≡ r → Fields s at place letters len start c
+      by-len a b m (Some n) p q = by-start a b n.0 m n.1 (take_number 8 s n.1) p q refl
+      by-len a b m None p q = absurd (not_found (sym (tape-no-len s at p q) ∙ e))
 
-      by_name : (r : TakenBytes) → take_vec s at ≡ r → Fields s at place letters len start c
-      by_name (Bytes a b m) p = by-len a b m (take_number 8 s m.at) p refl
-      by_name ShortBytes p = absurd (not_found (sym (tape-no-name s at p) ∙ e))
+      by_name : (r : Option Span) → take_vec s at ≡ r → Fields s at place letters len start c
+      by_name (Some x) p = by-len x.start x.len x.next (take_number 8 s x.next) p refl
+      by_name None p = absurd (not_found (sym (tape-no-name s at p) ∙ e))
 
   -- its name lies inside
-  pub tape-inside : take_tape s at ≡ Found place letters len start c → Part place (place + letters) (length s)
+  pub tape-inside : take_tape s at ≡ Some (found_tape place letters len start c) → Part place (place + letters) (length s)
   tape-inside e = record { ordered = omega arith; inside = take-vec-inside s at (fields e).name }
 
 -- ---- the next tape
 
 -- what is found next was read, and may stand there
-pub record NextTapeAt (before s : List ℕ) (at place letters len start : ℕ) (next : Cursor) : Type 0 where
-  pub taken : take_tape s at ≡ Found place letters len start next
+pub record NextTapeAt (before s : List ℕ) (at place letters len start : ℕ) (next : ℕ) : Type 0 where
+  pub taken : take_tape s at ≡ Some (found_tape place letters len start next)
   pub follows : fits before (tape_at s place letters len start) ≡ true
 
-module _ (before s : List ℕ) (at : ℕ) {place letters len start : ℕ} {next : Cursor} where
-  pub next-was : next_tape before s at ≡ Found place letters len start next → NextTapeAt before s at place letters len start next
+module _ (before s : List ℕ) (at : ℕ) {place letters len start : ℕ} {next : ℕ} where
+  pub next-was : next_tape before s at ≡ Some (found_tape place letters len start next) → NextTapeAt before s at place letters len start next
   next-was e = by (take_tape s at) refl
     where
-      by₂ : (p n v w : ℕ) (c : Cursor) (t : Bool) → take_tape s at ≡ Found p n v w c → fits before (tape_at s p n v w) ≡ t → NextTapeAt before s at place letters len start next
+      by₂ : (p n v w : ℕ) (c : ℕ) (t : Bool) → take_tape s at ≡ Some (found_tape p n v w c) → fits before (tape_at s p n v w) ≡ t → NextTapeAt before s at place letters len start next
       by₂ p n v w c true q f =
-          let same : Found p n v w c ≡ Found place letters len start next = sym (next-found before s at q f) ∙ e in
-          let b : p ≡ place = cc in
-          let l : n ≡ letters = cc in
-          let x : v ≡ len = cc in
-          let y : w ≡ start = cc in
+          let same : ◌≡◌ {A = Option FoundTape} (Some (found_tape p n v w c)) (Some (found_tape place letters len start next)) = sym (next-found before s at q f) ∙ e in
+          let all : found_tape p n v w c ≡ found_tape place letters len start next = cc in
+          let b : p ≡ place = ap (λ (t : FoundTape). t.place) all in
+          let l : n ≡ letters = ap (λ (t : FoundTape). t.letters) all in
+          let x : v ≡ len = ap (λ (t : FoundTape). t.len) all in
+          let y : w ≡ start = ap (λ (t : FoundTape). t.start) all in
           record { taken = q ∙ same; follows = rw (← b, ← l, ← x, ← y) f }
       by₂ p n v w c false q f = absurd (not_found (sym (next-refused before s at q f) ∙ e))
 
-      by : (x : TakenTape) → take_tape s at ≡ x → NextTapeAt before s at place letters len start next
-      by (Found p n v w c) q = by₂ p n v w c (fits before (tape_at s p n v w)) q refl
-      by NotFound q = absurd (not_found (sym (next-none before s at q) ∙ e))
+      by : (x : Option FoundTape) → take_tape s at ≡ x → NextTapeAt before s at place letters len start next
+      by (Some t) q = by₂ t.place t.letters t.len t.start t.next (fits before (tape_at s t.place t.letters t.len t.start)) q refl
+      by None q = absurd (not_found (sym (next-none before s at q) ∙ e))
 
   -- its name lies inside, and has at most 24 bytes
-  pub next-inside : next_tape before s at ≡ Found place letters len start next → Part place (place + letters) (length s)
+  pub next-inside : next_tape before s at ≡ Some (found_tape place letters len start next) → Part place (place + letters) (length s)
   next-inside e = tape-inside s at (next-was e).taken
 
-  pub next-short : next_tape before s at ≡ Found place letters len start next → letters ≤ 24
+  pub next-short : next_tape before s at ≡ Some (found_tape place letters len start next) → letters ≤ 24
   next-short e =
       let t = tape_at s place letters len start in
       let n : length t.name ≤ 24 = (fits-true before t (next-was e).follows).short in
@@ -100,27 +96,27 @@ pub record Step (k : ℕ) (before s : List ℕ) (at : ℕ) (ts : List Tape) : Ty
   pub letters : ℕ
   pub len : ℕ
   pub start : ℕ
-  pub next : Cursor
+  pub next : ℕ
   pub others : List Tape
-  pub found : take_tape s at ≡ Found place letters len start next
+  pub found : take_tape s at ≡ Some (found_tape place letters len start next)
   pub ok : fits before (tape_at s place letters len start) ≡ true
   pub all : ts ≡ tape_at s place letters len start ∷ others
-  pub rest : decode_from k (take letters (drop place s)) s next.at ≡ tapes others
+  pub rest : decode_from k (take letters (drop place s)) s next ≡ tapes others
 
 pub step : (k : ℕ) (before s : List ℕ) (at : ℕ) (ts : List Tape) → decode_from (suc k) before s at ≡ tapes ts → Step k before s at ts
 step k before s at ts e = by (next_tape before s at) refl
   where
-    by-rest : (place letters len start : ℕ) (next : Cursor) (r : Listing) → next_tape before s at ≡ Found place letters len start next
-        → decode_from k (take letters (drop place s)) s next.at ≡ r → prepend (tape_at s place letters len start) r ≡ tapes ts → Step k before s at ts
+    by-rest : (place letters len start : ℕ) (next : ℕ) (r : Listing) → next_tape before s at ≡ Some (found_tape place letters len start next)
+        → decode_from k (take letters (drop place s)) s next ≡ r → prepend (tape_at s place letters len start) r ≡ tapes ts → Step k before s at ts
     by-rest place letters len start next (tapes us) q r f =
         let n = next-was before s at q in
         record { place = place; letters = letters; len = len; start = start; next = next; others = us; found = n.taken; ok = n.follows; all = cc; rest = r }
     by-rest place letters len start next unreadable q r f = absurd (not-readable f)
 
-    by : (r : TakenTape) → next_tape before s at ≡ r → Step k before s at ts
-    by (Found place letters len start next) q =
-        by-rest place letters len start next (decode_from k (take letters (drop place s)) s next.at) q refl (sym (decode-more k before s at q) ∙ e)
-    by NotFound q = absurd (not-readable (sym (decode-none k before s at q) ∙ e))
+    by : (r : Option FoundTape) → next_tape before s at ≡ r → Step k before s at ts
+    by (Some t) q =
+        by-rest t.place t.letters t.len t.start t.next (decode_from k (take t.letters (drop t.place s)) s t.next) q refl (sym (decode-more k before s at q) ∙ e)
+    by None q = absurd (not-readable (sym (decode-none k before s at q) ∙ e))
 
 -- the end of a list that was read
 pub record End (s : List ℕ) (at : ℕ) (ts : List Tape) : Type 0 where
@@ -140,20 +136,20 @@ ended before s at ts e = by (eqb at (length s)) refl
 -- the count of a list that was read, and the tapes
 pub record Head (s : List ℕ) (ts : List Tape) : Type 0 where
   pub count : ℕ
-  pub next : Cursor
-  pub found : take_number 4 s 0 ≡ Number count next
+  pub next : ℕ
+  pub found : take_number 4 s 0 ≡ Some (count, next)
   pub few : count ≤ 8
-  pub rest : decode_from count [] s next.at ≡ tapes ts
+  pub rest : decode_from count [] s next ≡ tapes ts
 
 pub head : (s : List ℕ) (ts : List Tape) → decode_list s ≡ tapes ts → Head s ts
 head s ts e = by (take_number 4 s 0) refl
   where
-    by-few : (count : ℕ) (next : Cursor) (b : Bool) → take_number 4 s 0 ≡ Number count next → leb count 8 ≡ b → Head s ts
+    by-few : (count : ℕ) (next : ℕ) (b : Bool) → take_number 4 s 0 ≡ Some (count, next) → leb count 8 ≡ b → Head s ts
     by-few count next true q o =
         let few = leb-true count 8 o in
         record { count = count; next = next; found = q; few = few; rest = sym (list_counted s q few) ∙ e }
     by-few count next false q o = absurd (not-readable (sym (list-many s q (leb-false count 8 o)) ∙ e))
 
-    by : (r : TakenNumber) → take_number 4 s 0 ≡ r → Head s ts
-    by (Number count next) q = by-few count next (leb count 8) q refl
-    by ShortNumber q = absurd (not-readable (sym (list-short s q) ∙ e))
+    by : (r : Option (ℕ × ℕ)) → take_number 4 s 0 ≡ r → Head s ts
+    by (Some n) q = by-few n.0 n.1 (leb n.0 8) q refl
+    by None q = absurd (not-readable (sym (list-short s q) ∙ e))

@@ -1,11 +1,10 @@
 -- The contract of each public function leaves one answer, and one content of the lent buffer. Assumes nothing.
-use Rattle.std.specs.Prelude.{◌≡◌, Bool, List, ℕ}
+use Rattle.std.specs.Prelude.{◌≡◌, Bool, Option, Result, List, ℕ}
 use Rattle.std.proofs.Common.{sym, ◌∙◌}
 use Rattle.metadata.specs.declared.choice.Side.{Side}
-use Rattle.metadata.specs.declared.decode.Decoded.{Decoded}
-use Rattle.metadata.specs.declared.encode.Encoded.{Encoded}
+use Rattle.metadata.specs.declared.encode.EncodeError.{EncodeError}
 use Rattle.metadata.specs.declared.list.TapeList.{TapeList}
-use Rattle.metadata.specs.declared.record.Reading.{Reading}
+use Rattle.metadata.specs.declared.record.Record.{Record}
 use Rattle.metadata.specs.Name.{name_rule}
 use Rattle.metadata.specs.Tapes.{encode_list}
 use Rattle.metadata.specs.Struct.{tapes_of, storable, decoded_of}
@@ -28,19 +27,19 @@ pub is-storable-unique : (l : TapeList) {r r' : Bool} → r ≡ storable l → r
 is-storable-unique l = one
 
 -- `encode_list`: the answer and the buffer
-pub encode-list-unique : (l : TapeList) (out : List ℕ) {r r' : Encoded} {x x' : List ℕ} → writes_list l out ≡ after r x → writes_list l out ≡ after r' x' → (r ≡ r') × (x ≡ x')
+pub encode-list-unique : (l : TapeList) (out : List ℕ) {r r' : Result ℕ EncodeError} {x x' : List ℕ} → writes_list l out ≡ after r x → writes_list l out ≡ after r' x' → (r ≡ r') × (x ≡ x')
 encode-list-unique l out = writes-unique l (encode_list (tapes_of l)) out
 
 -- `decode_list`
-pub decode-list-unique : (s : List ℕ) {r r' : Decoded} → r ≡ decoded_of (decode_list s) → r' ≡ decoded_of (decode_list s) → r ≡ r'
+pub decode-list-unique : (s : List ℕ) {r r' : Option TapeList} → r ≡ decoded_of (decode_list s) → r' ≡ decoded_of (decode_list s) → r ≡ r'
 decode-list-unique s = one
 
 -- `encode_record`: the answer and the buffer
-pub encode-record-unique : (e : ℕ) (l : TapeList) (out : List ℕ) {r r' : Encoded} {x x' : List ℕ} → writes_record e l out ≡ after r x → writes_record e l out ≡ after r' x' → (r ≡ r') × (x ≡ x')
+pub encode-record-unique : (e : ℕ) (l : TapeList) (out : List ℕ) {r r' : Result ℕ EncodeError} {x x' : List ℕ} → writes_record e l out ≡ after r x → writes_record e l out ≡ after r' x' → (r ≡ r') × (x ≡ x')
 encode-record-unique e l out = writes-unique l (encode_record e (encode_list (tapes_of l))) out
 
 -- `read_record`
-pub read-record-unique : (s : List ℕ) {r r' : Reading} → r ≡ read_record s → r' ≡ read_record s → r ≡ r'
+pub read-record-unique : (s : List ℕ) {r r' : Option Record} → r ≡ read_record s → r' ≡ read_record s → r ≡ r'
 read-record-unique s = one
 
 -- `pick`: the bytes that are handed on
@@ -56,5 +55,5 @@ pub epoch-of-unique : (s : List ℕ) {r r' : ℕ} → r ≡ chosen_epoch s → r
 epoch-of-unique s = one
 
 -- `list_of`
-pub list-of-unique : (s : List ℕ) {r r' : Decoded} → r ≡ decoded_of (chosen_list s) → r' ≡ decoded_of (chosen_list s) → r ≡ r'
+pub list-of-unique : (s : List ℕ) {r r' : Option TapeList} → r ≡ decoded_of (chosen_list s) → r' ≡ decoded_of (chosen_list s) → r ≡ r'
 list-of-unique s = one

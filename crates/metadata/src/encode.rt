@@ -1,100 +1,88 @@
 // The tape list written as bytes. A list that would not be read back is refused, and so is a buffer
 // too small for it: then no byte is changed.
-ghost use Rattle.std.specs.Prelude.{◌≡◌, true, ◌&&◌, ◌+◌, ◌≤◌, leb, length};
+ghost use Rattle.std.specs.Prelude.{◌≡◌, true, false, ◌+◌, ◌≤◌, ◌<◌, ◌^◌, length, MatchResult};
 ghost use Rattle.octets.specs.Bytes.{put};
-ghost use Rattle.borsh.specs.Taking.{cursor};
-ghost use Rattle.metadata.specs.Tapes.{fits, encode_tape, encode_list};
-ghost use Rattle.metadata.specs.Struct.{meaning, tapes_of, storable};
+ghost use Rattle.metadata.specs.Tapes.{encode_tape, encode_list};
+ghost use Rattle.metadata.specs.Rules.{tape};
+ghost use Rattle.metadata.specs.Struct.{tapes_of, storable};
 ghost use Rattle.metadata.specs.Encoding.{after, writes_list};
 
-use crate::list::{TapeList, TapeMetadata};
-use crate::name::is_name;
-use borsh::{Cursor, put_u32, put_u64, put_vec};
+use crate::list::{TapeList, TapeMetadata, TapeView};
+use borsh::Writer;
+use std::error::Error;
+use std::fmt;
 
-// What became of a request to write.
-#[derive(Clone, Copy)]
-pub enum Encoded {
-    // So many bytes stand at the buffer's front.
-    Written(usize),
+// Why nothing was written.
+#[derive(Clone, Copy, Debug, PartialEq, Eq)]
+pub enum EncodeError {
     // The list breaks the rule that a list is read by.
     NotStorable,
     // The buffer is too short.
     NoRoom,
 }
 
-// Whether a tape may follow another in a list that is stored.
-fn fits_behind(before: TapeMetadata, t: TapeMetadata) -> bool
-    requires { before.letters ≤ 24 }
-    ensures { result ≡ (leb t.letters 24 && fits (meaning before).name (meaning t)) }
-{
-    let first = before.name;
-    let first_end = before.letters;
-    let name = t.name;
-    let end = t.letters;
-    if TapeMetadata::MOST_LETTERS < end {
-        return false;
-    }
-    if octets::comes_before(&first[..first_end], &name[..end]) {
-        if is_name(&name[..end]) {
-            return t.start <= t.len;
+impl fmt::Display for EncodeError {
+    fn fmt<W: fmt::Write>(&self, f: &mut fmt::Formatter<W>) -> fmt::Result {
+        match self {
+            EncodeError::NotStorable => write!(f, "the list can't be stored"),
+            EncodeError::NoRoom => write!(f, "the buffer is too short"),
         }
     }
-    false
 }
 
+impl Error for EncodeError {}
+
 // Whether a list may be stored, that is, would be read back.
+#[tactic(auto, unfolding(crate::specs::Struct::storable))]
 pub fn is_storable(list: TapeList) -> bool
     ensures { result ≡ storable list }
 {
     if TapeList::MOST_NAMES < list.count {
         return false;
     }
-    let mut before = TapeMetadata::blank();
-    let mut i = 0;
-    while i < list.count {
-        let t = list.tapes[i];
-        if fits_behind(before, t) {
-            before = t;
-            i += 1;
-        } else {
+    let mut before: &[u8] = b"";
+    for t in &list.tapes[..list.count] {
+        if TapeMetadata::MOST_LETTERS < t.letters {
             return false;
         }
+        let t = t.view();
+        if !t.may_follow(before) {
+            return false;
+        }
+        before = t.name;
     }
     true
 }
 
 // How many bytes a tape takes.
-fn tape_len(t: TapeMetadata) -> usize
-    requires { t.letters ≤ 24 }
-    ensures { result ≡ length (encode_tape (meaning t)) }
+fn tape_len(t: TapeView<'_>) -> usize
+    requires { length t.name.now ≤ 24 }
+    ensures { result ≡ length (encode_tape (tape t.entry.name.now t.entry.len t.entry.start)) }
 {
-    20 + t.letters
+    20 + t.name.len()
 }
 
 // How many bytes a list takes.
-pub(crate) fn encoded_len(list: TapeList) -> usize
+fn encoded_len(list: TapeList) -> usize
     requires { storable list ≡ true }
     ensures { result ≡ length (encode_list (tapes_of list)) }
 {
     let mut n = 4;
-    let mut i = 0;
-    while i < list.count {
-        let t = list.tapes[i];
-        n += tape_len(t);
-        i += 1;
+    for t in &list.tapes[..list.count] {
+        n += tape_len(t.view());
     }
     n
 }
 
-fn put_tape(out: &mut [u8], c: Cursor, t: TapeMetadata) -> Cursor
-    requires { (t.letters ≤ 24) × (c.at + length (encode_tape (meaning t)) ≤ length out.old) }
-    ensures { (result ≡ cursor (c.at + length (encode_tape (meaning t)))) × (out.new ≡ put out.old c.at (encode_tape (meaning t))) }
+fn put_tape(w: &mut Writer<'_>, t: TapeView<'_>)
+    requires { (length t.name.now < 2 ^ 32) × (w.old.at + length (encode_tape (tape t.name.now t.len t.start)) ≤ length w.old.out.now) }
+    ensures lent { w.new.out.ghost_name ≡ w.old.out.ghost_name }
+    ensures place { w.new.at ≡ w.old.at + length (encode_tape (tape t.entry.name.now t.entry.len t.entry.start)) }
+    ensures bytes { w.new.out.now ≡ put w.old.out.now w.old.at (encode_tape (tape t.entry.name.now t.entry.len t.entry.start)) }
 {
-    let name = t.name;
-    let end = t.letters;
-    let c = put_vec(out, c, &name[..end]);
-    let c = put_u64(out, c, t.len);
-    put_u64(out, c, t.start)
+    w.vec(t.name);
+    w.u64(t.len);
+    w.u64(t.start);
 }
 
 // A list that may be stored, at the front of a buffer that has room for it.
@@ -102,25 +90,31 @@ pub(crate) fn put_list(out: &mut [u8], list: TapeList)
     requires { (storable list ≡ true) × (length (encode_list (tapes_of list)) ≤ length out.old) }
     ensures { out.new ≡ put out.old 0 (encode_list (tapes_of list)) }
 {
-    let mut c = put_u32(out, Cursor { at: 0 }, list.count as u32);
-    let mut i = 0;
-    while i < list.count {
-        let t = list.tapes[i];
-        c = put_tape(out, c, t);
-        i += 1;
+    let mut w = Writer::new(out, 0);
+    w.u32(list.count as u32);
+    for t in &list.tapes[..list.count] {
+        put_tape(&mut w, t.view());
     }
 }
 
-pub fn encode_list(out: &mut [u8], list: TapeList) -> Encoded
+// How many bytes a list takes, if it may be stored.
+pub(crate) fn storable_len(list: TapeList) -> Result<usize, EncodeError>
+    ensures { MatchResult result (λ n. (storable list ≡ true) × (n ≡ length (encode_list (tapes_of list)))) (λ e. (storable list ≡ false) × (e ≡ EncodeError.NotStorable)) }
+{
+    if !is_storable(list) {
+        return Err(EncodeError::NotStorable);
+    }
+    Ok(encoded_len(list))
+}
+
+#[tactic(auto, unfolding(crate::specs::Encoding::writes))]
+pub fn encode_list(out: &mut [u8], list: TapeList) -> Result<usize, EncodeError>
     ensures { writes_list list out.old ≡ after result out.new }
 {
-    if is_storable(list) {
-        let n = encoded_len(list);
-        if out.len() < n {
-            return Encoded::NoRoom;
-        }
-        put_list(out, list);
-        return Encoded::Written(n);
+    let n = storable_len(list)?;
+    if out.len() < n {
+        return Err(EncodeError::NoRoom);
     }
-    Encoded::NotStorable
+    put_list(out, list);
+    Ok(n)
 }

@@ -15,8 +15,8 @@ mod name;
 mod record;
 
 pub use choice::{Side, epoch_of, list_of, next_side, pick};
-pub use decode::{Decoded, decode_list};
-pub use encode::{Encoded, encode_list, is_storable};
+pub use decode::decode_list;
+pub use encode::{EncodeError, encode_list, is_storable};
 pub use list::{TapeList, TapeMetadata};
 pub use name::is_name;
-pub use record::{Reading, encode_record, read_record};
+pub use record::{Record, encode_record, read_record};

@@ -4,33 +4,19 @@ ghost use Rattle.metadata.specs.Name.{name_byte, name_rule};
 
 use crate::list::TapeMetadata;
 
+#[tactic(auto, unfolding(crate::specs::Name::name_byte))]
 fn is_name_byte(b: u8) -> bool
     ensures { result ≡ name_byte b }
 {
-    match b {
-        b'a'..=b'z' => true,
-        b'0'..=b'9' => true,
-        b'_' | b'-' => true,
-        _ => false,
-    }
+    matches!(b, b'a'..=b'z' | b'0'..=b'9' | b'_' | b'-')
 }
 
+#[tactic(auto, unfolding(crate::specs::Name::name_rule))]
 pub fn is_name(s: &[u8]) -> bool
     ensures { result ≡ name_rule s.now }
 {
-    if s.len() < 1 {
+    if s.is_empty() || TapeMetadata::MOST_LETTERS < s.len() {
         return false;
     }
-    if TapeMetadata::MOST_LETTERS < s.len() {
-        return false;
-    }
-    let mut i = 0;
-    while i < s.len() {
-        if is_name_byte(s[i]) {
-            i += 1;
-        } else {
-            return false;
-        }
-    }
-    true
+    s.iter().all(|b| is_name_byte(*b))
 }

@@ -95,7 +95,7 @@ listed-view x li l f e listed = (shown-listed x _ e listed).1 ∙ ap (λ (b : Bo
 -- a name and sizes that are in range
 module _ (n : List ℕ) (o : Opening) (named : name_rule n ≡ true) (other : same_bytes n METADATA ≡ false) where
   shaped : 1 ≤ o.entry → o.entry ≤ 256 → 1 ≤ o.file_size → o.file_size ≤ 4096 → 1 ≤ o.cache → o.cache ≤ 4096
-      → o.len % o.entry ≡ 0 → o.start % o.entry ≡ 0 → shape_of n o ≡ Ok 0
+      → o.len % o.entry ≡ 0 → o.start % o.entry ≡ 0 → shape_of n o ≡ Ok tt
   shaped entry-some entry-small file-some file-small cache-some cache-small len_whole start-whole =
       shape-good n o named (rw (le-leb 1 o.entry entry-some, le-leb o.entry 256 entry-small))
       (rw (eq-eqb (o.len % o.entry) 0 len_whole, eq-eqb (o.start % o.entry) 0 start-whole))
@@ -177,7 +177,7 @@ module _ (d s n : List ℕ) (long : 0 < length n) (orderly : Orderly d s) (prope
   dormant : Dormant t p
   dormant = subst (λ (b : Bool). GoodIf b t p) shut good
 
-  its_shape : shape_of n asked ≡ Ok 0
+  its_shape : shape_of n asked ≡ Ok tt
   its_shape =
       let low = name-low s names_at n own.place own.found in
       let has = found_name s names_at n own.place own.found in
@@ -191,7 +191,7 @@ module _ (d s n : List ℕ) (long : 0 < length n) (orderly : Orderly d s) (prope
   at_its_place =
       open-goes d s k n entry t.size cache start (orderly-usable d s orderly) writer
       ∙ ap (λ (o : Opening). open_on d s n o (place_of s n)) (opened-known d s n orderly (build t p) seen listed (writes-open s k writer) entry t.size cache start)
-      ∙ on-shaped d s n asked (place_of s n) 0 its_shape
+      ∙ on-shaped d s n asked (place_of s n) tt its_shape
       ∙ at_place d s n asked (place_of s n) (seen.live ∙ shut) own.place (ap (place_for s) own.found)
 
   few : is_ninth d s true folder ≡ false
@@ -231,7 +231,7 @@ open-new-serves d s n orderly st seen shut unlisted named other few q place k en
     = listed_then d s n orderly (writes-open s k writer) ∙ ap (λ (v : View). v.listed) seen.list ∙ unlisted in
     let found : Opens d s n o (place_of s n) q
     = record {
-      value = 0;
+      value = tt;
       shape = shaped n o named other entry-some entry-small file-some file-small cache-some cache-small whole whole;
       shut = seen.live ∙ shut;
       place = place;

@@ -59,7 +59,7 @@ module _ (d s wanted : List ℕ) (o : Opening) (tape : Option ℕ) where
     unfolding open_at
     at_place p h = rw (shut, h)
 
-  pub on-shaped : (v : ℕ) → shape_of wanted o ≡ Ok v → open_on d s wanted o tape ≡ open_at d s wanted o tape
+  pub on-shaped : (v : Unit) → shape_of wanted o ≡ Ok v → open_on d s wanted o tape ≡ open_at d s wanted o tape
   unfolding open_on
   on-shaped v h = rw h
 

@@ -1,7 +1,7 @@
 -- "Open: 6, 8 (entry), 10, 8 (file), 7, 8 (cache), 9, 5, 16, 18", behind 1 and 2. Assumes nothing.
-use Rattle.std.specs.Prelude.{Bool, true, false, cond, not, ◌&&◌, List, [], ℕ, ◌+◌, ◌-◌, eqb, Option, Some, None, Ok, Err}
+use Rattle.std.specs.Prelude.{Bool, true, false, cond, not, ◌&&◌, List, [], ℕ, ◌+◌, ◌-◌, eqb, Option, Some, None, Result, Ok, Err}
 use Rattle.answers.specs.Outcome.{Outcome, outcome, refused_at}
-use Rattle.answers.specs.Answers.{Answer}
+use Rattle.answers.specs.declared.Refusal.{Refusal}
 use Rattle.answers.specs.declared.Refusal.TheVariants.{Unusable, Unknown, Full, AlreadyOpen, Missing, TooLarge}
 use Rattle.layout.specs.Disk.{directories}
 use Rattle.layout.specs.Names.{find_name, put_name}
@@ -109,7 +109,7 @@ open_placed d s wanted o None = refused_at Full d s
 unfoldable pub open_at : List ℕ → List ℕ → List ℕ → Opening → Option ℕ → Outcome
 open_at d s wanted o tape = cond (is_open_tape s tape) (refused_at AlreadyOpen d s) (open_placed d s wanted o (place_for s tape))
 
-abbrev pub open_shaped : List ℕ → List ℕ → List ℕ → Opening → Option ℕ → Answer → Outcome
+abbrev pub open_shaped : List ℕ → List ℕ → List ℕ → Opening → Option ℕ → Result Unit Refusal → Outcome
 open_shaped d s wanted o tape (Ok v) = open_at d s wanted o tape
 open_shaped d s wanted o tape (Err why) = refused_at why d s
 

@@ -1,6 +1,6 @@
 -- Laws of the call: the contract leaves nothing open, a refused call changes nothing, and a served one keeps both layout rules and both lengths
 -- and leaves areas of bytes areas of bytes. Assumes nothing.
-use Rattle.std.specs.Prelude.{◌≡◌, ◌≢◌, true, ◌&&◌, List, ℕ, ◌<◌, eqb, length, Option, Some, None, Ok, Err}
+use Rattle.std.specs.Prelude.{◌≡◌, ◌≢◌, true, ◌&&◌, List, ℕ, ◌<◌, eqb, length, Option, Some, None, Result, Ok, Err}
 use Rattle.std.proofs.Math.Path.{refl}
 use Rattle.std.proofs.Common.{sym, ◌∙◌, arith, eq-eqb}
 use Rattle.std.proofs.Math.Bool.{false, true≢false}
@@ -46,7 +46,7 @@ open-unique d s t wanted entry fs cache start r r' d₁ d₂ s₁ s₂ e f = bot
 
 -- what a call that is served has found: o is what is opened, tape is where the name stands among the tapes
 pub record Opens (d s wanted : List ℕ) (o : Opening) (tape : Option ℕ) (p : ℕ) : Type 0 where
-  pub value : ℕ
+  pub value : Unit
   pub shape : shape_of wanted o ≡ Ok value
   pub shut : is_open_tape s tape ≡ false
   pub place : place_for s tape ≡ Some p
@@ -63,7 +63,7 @@ module _ (P : Outcome → Type 0) (d s wanted : List ℕ) (no : (why : Refusal) 
     abbrev Served : Type 0
     Served = (p : ℕ) → Opens d s wanted o tape p → P (open_now d s wanted o directory p)
 
-    in-cases : (v : ℕ) → shape_of wanted o ≡ Ok v → is_open_tape s tape ≡ false → (p : ℕ) → place_for s tape ≡ Some p → Served → P (open_in d s wanted o directory p)
+    in-cases : (v : Unit) → shape_of wanted o ≡ Ok v → is_open_tape s tape ≡ false → (p : ℕ) → place_for s tape ≡ Some p → Served → P (open_in d s wanted o directory p)
     unfolding open_in
     in-cases v shape shut p place goes =
         picked P (is_ninth d s o.listed directory) _ _ (λ e. no Full)
@@ -87,7 +87,7 @@ module _ (P : Outcome → Type 0) (d s wanted : List ℕ) (no : (why : Refusal) 
         })))
         (λ e. no Missing)))
 
-    at-cases : (v : ℕ) → shape_of wanted o ≡ Ok v → Served → P (open_at d s wanted o tape)
+    at-cases : (v : Unit) → shape_of wanted o ≡ Ok v → Served → P (open_at d s wanted o tape)
     unfolding open_at
     at-cases v shape goes = picked P (is_open_tape s tape) _ _ (λ e. no AlreadyOpen) (λ shut. by shut (place_for s tape) refl)
       where
@@ -99,7 +99,7 @@ module _ (P : Outcome → Type 0) (d s wanted : List ℕ) (no : (why : Refusal) 
     unfolding open_on
     on-cases goes = by (shape_of wanted o) refl
       where
-        by : (a : Answer) → shape_of wanted o ≡ a → P (open_shaped d s wanted o tape a)
+        by : (a : Result Unit Refusal) → shape_of wanted o ≡ a → P (open_shaped d s wanted o tape a)
         by (Ok v) shape = at-cases v shape goes
         by (Err why) shape = no why
 

@@ -1,7 +1,7 @@
 -- What is opened, and whether its name and sizes are in range: "6, 8 (entry), 10, 8 (file), 7, 8 (cache)". Assumes nothing.
-use Rattle.std.specs.Prelude.{Bool, cond, ◌&&◌, List, [], ◌∷◌, ℕ, ◌%◌, eqb, leb, Ok, Err}
+use Rattle.std.specs.Prelude.{Bool, cond, ◌&&◌, List, [], ◌∷◌, ℕ, ◌%◌, eqb, leb, Result, Ok, Err}
 use Rattle.octets.specs.Compare.{same_bytes}
-use Rattle.answers.specs.Answers.{Answer}
+use Rattle.answers.specs.declared.Refusal.{Refusal}
 use Rattle.answers.specs.declared.Refusal.TheVariants.{BadName, ReservedName, BadSize, NotWhole}
 use Rattle.metadata.specs.Name.{name_rule}
 use Rattle.session.specs.declared.views.View.{View}
@@ -30,13 +30,13 @@ opening_of v entry fs cache start =
 abbrev pub is_whole : Opening → Bool
 is_whole o = eqb (o.len % o.entry) 0 && eqb (o.start % o.entry) 0
 
-unfoldable pub shape_of : List ℕ → Opening → Answer
+unfoldable pub shape_of : List ℕ → Opening → Result Unit Refusal
 shape_of name o =
     cond (name_rule name)
     (cond (in_range o.entry 256)
     (cond (is_whole o)
     (cond (in_range o.file_size 4096)
-    (cond (same_bytes name METADATA) (Err ReservedName) (cond (in_range o.cache 4096) (Ok 0) (Err BadSize)))
+    (cond (same_bytes name METADATA) (Err ReservedName) (cond (in_range o.cache 4096) (Ok tt) (Err BadSize)))
     (Err BadSize))
     (Err NotWhole))
     (Err BadSize))

@@ -43,7 +43,7 @@ pub record Shaped (wanted : List ℕ) (o : Opening) : Type 0 where
   pub cache-some : 1 ≤ o.cache
   pub cache-small : o.cache ≤ 4096
 
-pub shape-done : (wanted : List ℕ) (o : Opening) (v : ℕ) → shape_of wanted o ≡ Ok v → Shaped wanted o
+pub shape-done : (wanted : List ℕ) (o : Opening) (v : Unit) → shape_of wanted o ≡ Ok v → Shaped wanted o
 shape-done wanted o v done =
     let not-refused : (why : Refusal) → shape_of wanted o ≡ Err why → ⊥ = λ why e. let z : ◌≡◌ {A = ℕ} 0 1 = cc in omega arith in
     let named : name_rule wanted ≡ true = holds (name_rule wanted) (λ f. not-refused _ (shape-bad-name wanted o f)) in

@@ -73,7 +73,7 @@ module _ (wanted : List ℕ) (o : Opening) where
             unfolding shape_of
             shape-bad-cache h = rw (named, entry, whole, file, other, h)
 
-            pub shape-good : in_range o.cache 4096 ≡ true → shape_of wanted o ≡ Ok 0
+            pub shape-good : in_range o.cache 4096 ≡ true → shape_of wanted o ≡ Ok tt
             unfolding shape_of
             shape-good h = rw (named, entry, whole, file, other, h)
 

@@ -1,5 +1,5 @@
 -- Document 01, "The driver": the reply to a line, and what the areas then hold. "Its disk has 8 slots." Assumes nothing.
-use Rattle.std.specs.Prelude.{◌≡◌, cond, List, [], ℕ, ◌*◌, ◌≤◌, ltb, length, get_or, take, Option, Some, None, Ok, Err}
+use Rattle.std.specs.Prelude.{◌≡◌, cond, Option, Some, None, Ok, Err, List, [], ℕ, ◌*◌, ◌≤◌, ltb, length, get_or, take}
 use Rattle.octets.specs.Bytes.{put}
 use Rattle.answers.specs.Answers.{code_of, value_of}
 use Rattle.answers.specs.Outcome.{Outcome, outcome, Reading}
@@ -23,7 +23,7 @@ use Rattle.lines.specs.Calls.{call_of}
 use Rattle.lines.specs.Reply.{reply_of, unreadable_reply}
 use Rattle.lines.specs.Written.{Written}
 use Rattle.lines.specs.declared.calls.Call.{Call}
-use Rattle.lines.specs.declared.calls.Call.TheVariants.{Format, Store, Append, Reader, Truncate, Open, Put, Shift, Cut, Read, Commit, Drop, Unreadable}
+use Rattle.lines.specs.declared.calls.Call.TheVariants.{Format, Store, Append, Reader, Truncate, Open, Put, Shift, Cut, Read, Commit, Drop}
 
 -- both areas, the space that bytes are kept in meanwhile, and the reply's text
 pub record Replied : Type 0 where
@@ -45,42 +45,42 @@ field_of line k = get_or (fields line) k []
 abbrev pub on_disk : List ℕ → After → Outcome
 on_disk d a = outcome a.answer d a.session
 
-unfoldable pub made : List ℕ → List ℕ → List ℕ → Call → Outcome
-made d s line Format = format_call d s 8
-made d s line Store = on_disk d (store_call d s)
-made d s line Append = on_disk d (append_call d s)
-made d s line Reader = on_disk d (reader_call d s)
-made d s line Truncate = on_disk d (truncate_call d s)
-made d s line (Open t e f c start) = open_call d s t (field_of line 2) e f c start
-made d s line (Put t h) = put_call d s t h (hex_bytes (field_of line 3))
-made d s line (Shift t h i) = on_disk d (shift_call d s t h i)
-made d s line (Cut t h n) = on_disk d (cut_call d s t h n)
-made d s line (Read t h i n) = outcome (Ok 0) d s
-made d s line (Commit t) = commit_call d s t
-made d s line (Drop t) = on_disk d (drop_transaction_call d s t)
-made d s line Unreadable = outcome (Ok 0) d s
+unfoldable pub made : List ℕ → List ℕ → List ℕ → Option Call → Outcome
+made d s line (Some Format) = format_call d s 8
+made d s line (Some Store) = on_disk d (store_call d s)
+made d s line (Some Append) = on_disk d (append_call d s)
+made d s line (Some Reader) = on_disk d (reader_call d s)
+made d s line (Some Truncate) = on_disk d (truncate_call d s)
+made d s line (Some (Open t e f c start)) = open_call d s t (field_of line 2) e f c start
+made d s line (Some (Put t h)) = put_call d s t h (hex_bytes (field_of line 3))
+made d s line (Some (Shift t h i)) = on_disk d (shift_call d s t h i)
+made d s line (Some (Cut t h n)) = on_disk d (cut_call d s t h n)
+made d s line (Some (Read t h i n)) = outcome (Ok 0) d s
+made d s line (Some (Commit t)) = commit_call d s t
+made d s line (Some (Drop t)) = on_disk d (drop_transaction_call d s t)
+made d s line None = outcome (Ok 0) d s
 
 -- the bytes of a put are kept in the space
-unfoldable pub kept : List ℕ → List ℕ → Call → List ℕ
-kept line space Format = space
-kept line space Store = space
-kept line space Append = space
-kept line space Reader = space
-kept line space Truncate = space
-kept line space (Open t e f c start) = space
-kept line space (Put t h) = put space 0 (hex_bytes (field_of line 3))
-kept line space (Shift t h i) = space
-kept line space (Cut t h n) = space
-kept line space (Read t h i n) = space
-kept line space (Commit t) = space
-kept line space (Drop t) = space
-kept line space Unreadable = space
+unfoldable pub kept : List ℕ → List ℕ → Option Call → List ℕ
+kept line space (Some Format) = space
+kept line space (Some Store) = space
+kept line space (Some Append) = space
+kept line space (Some Reader) = space
+kept line space (Some Truncate) = space
+kept line space (Some (Open t e f c start)) = space
+kept line space (Some (Put t h)) = put space 0 (hex_bytes (field_of line 3))
+kept line space (Some (Shift t h i)) = space
+kept line space (Some (Cut t h n)) = space
+kept line space (Some (Read t h i n)) = space
+kept line space (Some (Commit t)) = space
+kept line space (Some (Drop t)) = space
+kept line space None = space
 
 -- "line number, code, value, bytes in hex or `-`"
 abbrev pub told : ℕ → List ℕ → Outcome → Replied
 told number space o = replied o.disk o.session space (reply_of number (code_of o.answer) (value_of o.answer) [])
 
-abbrev pub makes : List ℕ → List ℕ → ℕ → List ℕ → List ℕ → Call → Replied
+abbrev pub makes : List ℕ → List ℕ → ℕ → List ℕ → List ℕ → Option Call → Replied
 makes d s number line space call = told number (kept line space call) (made d s line call)
 
 -- ---- the read: "a read above 4,096 bytes (entries, if there is no such handle), is unreadable"
@@ -107,20 +107,20 @@ reads d s number space t h i n =
 
 -- ---- a line
 
-abbrev pub reply_for : List ℕ → List ℕ → ℕ → List ℕ → List ℕ → Call → Replied
-reply_for d s number line space Format = makes d s number line space Format
-reply_for d s number line space Store = makes d s number line space Store
-reply_for d s number line space Append = makes d s number line space Append
-reply_for d s number line space Reader = makes d s number line space Reader
-reply_for d s number line space Truncate = makes d s number line space Truncate
-reply_for d s number line space (Open t e f c start) = makes d s number line space (Open t e f c start)
-reply_for d s number line space (Put t h) = makes d s number line space (Put t h)
-reply_for d s number line space (Shift t h i) = makes d s number line space (Shift t h i)
-reply_for d s number line space (Cut t h n) = makes d s number line space (Cut t h n)
-reply_for d s number line space (Read t h i n) = reads d s number space t h i n
-reply_for d s number line space (Commit t) = makes d s number line space (Commit t)
-reply_for d s number line space (Drop t) = makes d s number line space (Drop t)
-reply_for d s number line space Unreadable = replied d s space (unreadable_reply number)
+abbrev pub reply_for : List ℕ → List ℕ → ℕ → List ℕ → List ℕ → Option Call → Replied
+reply_for d s number line space (Some Format) = makes d s number line space (Some Format)
+reply_for d s number line space (Some Store) = makes d s number line space (Some Store)
+reply_for d s number line space (Some Append) = makes d s number line space (Some Append)
+reply_for d s number line space (Some Reader) = makes d s number line space (Some Reader)
+reply_for d s number line space (Some Truncate) = makes d s number line space (Some Truncate)
+reply_for d s number line space (Some (Open t e f c start)) = makes d s number line space (Some (Open t e f c start))
+reply_for d s number line space (Some (Put t h)) = makes d s number line space (Some (Put t h))
+reply_for d s number line space (Some (Shift t h i)) = makes d s number line space (Some (Shift t h i))
+reply_for d s number line space (Some (Cut t h n)) = makes d s number line space (Some (Cut t h n))
+reply_for d s number line space (Some (Read t h i n)) = reads d s number space t h i n
+reply_for d s number line space (Some (Commit t)) = makes d s number line space (Some (Commit t))
+reply_for d s number line space (Some (Drop t)) = makes d s number line space (Some (Drop t))
+reply_for d s number line space None = replied d s space (unreadable_reply number)
 
 unfoldable pub reply_to : List ℕ → List ℕ → ℕ → List ℕ → List ℕ → Replied
 reply_to d s number line space = reply_for d s number line space (call_of line)

@@ -1,6 +1,6 @@
 -- Laws of replies: how long a reply's text, a line's field and a line that says something are at most, the reply by what the line says, that a read changes
 -- no area, and that the contract leaves nothing open. Assumes nothing.
-use Rattle.std.specs.Prelude.{◌≡◌, refl, Bool, true, false, List, [], ◌∷◌, ℕ, zero, suc, ◌+◌, ◌*◌, ◌/◌, ◌≤◌, ◌<◌, eqb, ltb, get_or, take, Some, None, Ok, Err}
+use Rattle.std.specs.Prelude.{◌≡◌, refl, Option, Some, None, Ok, Err, Bool, true, false, List, [], ◌∷◌, ℕ, zero, suc, ◌+◌, ◌*◌, ◌/◌, ◌≤◌, ◌<◌, eqb, ltb, get_or, take}
 use Rattle.std.proofs.Common.{sym, ◌∙◌, true≢false, arith, ltb-false, lt-ltb, length-append, length-take}
 use Rattle.std.proofs.Math.Path.{ap}
 use Rattle.std.proofs.Math.ListN.{length}
@@ -20,7 +20,7 @@ use Rattle.lines.specs.CallLaws.{call_long}
 use Rattle.lines.specs.Reply.{reply_of, unreadable_reply}
 use Rattle.lines.specs.ReplyLaws.{length-tabbed, length-text}
 use Rattle.lines.specs.declared.calls.Call.{Call}
-use Rattle.lines.specs.declared.calls.Call.TheVariants.{Format, Store, Append, Reader, Truncate, Open, Put, Shift, Cut, Read, Commit, Drop, Unreadable}
+use Rattle.lines.specs.declared.calls.Call.TheVariants.{Format, Store, Append, Reader, Truncate, Open, Put, Shift, Cut, Read, Commit, Drop}
 use Rattle.replies.specs.Replies.{Replied, replied, made, kept, told, makes, entry_for, shown, read_text, reads, reply_for, reply_to, Happened}
 
 -- ---- the text of a reply
@@ -70,24 +70,24 @@ field-length (b ∷ s) k =
 
 -- ---- a line that says something
 
-pub call-short : (line : List ℕ) → (call_of line ≡ Unreadable → ⊥) → length line ≤ 8500
+pub call-short : (line : List ℕ) → (call_of line ≡ None → ⊥) → length line ≤ 8500
 call-short line d = order 8500 (length line) (λ (l : 8500 < length line). absurd (d (call_long line l))) (λ (l : length line ≤ 8500). l)
 
 -- whether a line asks for a call other than a read
-abbrev pub asks : Call → Bool
-asks Format = true
-asks Store = true
-asks Append = true
-asks Reader = true
-asks Truncate = true
-asks (Open t e f c start) = true
-asks (Put t h) = true
-asks (Shift t h i) = true
-asks (Cut t h n) = true
-asks (Read t h i n) = false
-asks (Commit t) = true
-asks (Drop t) = true
-asks Unreadable = false
+abbrev pub asks : Option Call → Bool
+asks (Some Format) = true
+asks (Some Store) = true
+asks (Some Append) = true
+asks (Some Reader) = true
+asks (Some Truncate) = true
+asks (Some (Open t e f c start)) = true
+asks (Some (Put t h)) = true
+asks (Some (Shift t h i)) = true
+asks (Some (Cut t h n)) = true
+asks (Some (Read t h i n)) = false
+asks (Some (Commit t)) = true
+asks (Some (Drop t)) = true
+asks None = false
 
 pub asks-short : (line : List ℕ) → asks (call_of line) ≡ true → length line ≤ 8500
 asks-short line a = call-short line (λ e. true≢false (sym a ∙ ap asks e))
@@ -142,33 +142,33 @@ hex-front space hex h = rw (← length-bytes hex) (part-put space 0 (hex_bytes h
 
 -- ---- the reply to a line, by what it says
 
-made-for : (d s : List ℕ) (number : ℕ) (line space : List ℕ) (call : Call) → asks call ≡ true
+made-for : (d s : List ℕ) (number : ℕ) (line space : List ℕ) (call : Option Call) → asks call ≡ true
     → reply_for d s number line space call ≡ makes d s number line space call
-made-for d s number line space Format a = refl
-made-for d s number line space Store a = refl
-made-for d s number line space Append a = refl
-made-for d s number line space Reader a = refl
-made-for d s number line space Truncate a = refl
-made-for d s number line space (Open t e f c start) a = refl
-made-for d s number line space (Put t h) a = refl
-made-for d s number line space (Shift t h i) a = refl
-made-for d s number line space (Cut t h n) a = refl
-made-for d s number line space (Read t h i n) a = absurd (true≢false (sym a))
-made-for d s number line space (Commit t) a = refl
-made-for d s number line space (Drop t) a = refl
-made-for d s number line space Unreadable a = absurd (true≢false (sym a))
+made-for d s number line space (Some Format) a = refl
+made-for d s number line space (Some Store) a = refl
+made-for d s number line space (Some Append) a = refl
+made-for d s number line space (Some Reader) a = refl
+made-for d s number line space (Some Truncate) a = refl
+made-for d s number line space (Some (Open t e f c start)) a = refl
+made-for d s number line space (Some (Put t h)) a = refl
+made-for d s number line space (Some (Shift t h i)) a = refl
+made-for d s number line space (Some (Cut t h n)) a = refl
+made-for d s number line space (Some (Read t h i n)) a = absurd (true≢false (sym a))
+made-for d s number line space (Some (Commit t)) a = refl
+made-for d s number line space (Some (Drop t)) a = refl
+made-for d s number line space None a = absurd (true≢false (sym a))
 
 module _ (d s : List ℕ) (number : ℕ) (line space : List ℕ) where
-  pub reply-unreadable : call_of line ≡ Unreadable → reply_to d s number line space ≡ replied d s space (unreadable_reply number)
+  pub reply-unreadable : call_of line ≡ None → reply_to d s number line space ≡ replied d s space (unreadable_reply number)
   unfolding reply_to
   reply-unreadable e = rw e
 
-  pub reply-read : (t h i n : ℕ) → call_of line ≡ Read t h i n → reply_to d s number line space ≡ reads d s number space t h i n
+  pub reply-read : (t h i n : ℕ) → call_of line ≡ Some (Read t h i n) → reply_to d s number line space ≡ reads d s number space t h i n
   unfolding reply_to
   reply-read t h i n e = rw e
 
   -- a read that is too long is unreadable, also where it would be refused
-  pub unreadable-first : (t h i n : ℕ) → call_of line ≡ Read t h i n → 4096 < n * entry_for s h
+  pub unreadable-first : (t h i n : ℕ) → call_of line ≡ Some (Read t h i n) → 4096 < n * entry_for s h
       → reply_to d s number line space ≡ replied d s space (unreadable_reply number)
   unreadable-first t h i n e l = reply-read t h i n e ∙ read-long d s number space t h i n (lt-ltb 4096 (n * entry_for s h) l)
 

@@ -1,4 +1,6 @@
 // The read that a line asks for.
+#![tactic(auto, unfolding(crate::specs::Replies::entry_for))]
+
 ghost use Rattle.std.specs.Prelude.{◌≡◌};
 ghost use Rattle.replies.specs.Replies.{entry_for};
 
@@ -6,12 +8,11 @@ ghost use Rattle.replies.specs.Replies.{entry_for};
 pub fn entry_of(session: &[u8], handle: u64) -> u64
     ensures { result ≡ entry_for session.now handle }
 {
-    if layout::is_begun_session(session) {
-        let Some(tape) = session::find_handle(session, handle) else {
-            return 1;
-        };
-        let row = session::get_handle(session, tape);
-        return row.entry;
+    if !layout::is_begun_session(session) {
+        return 1;
     }
-    1
+    match session::find_handle(session, handle) {
+        Some(tape) => session::get_handle(session, tape).entry,
+        None => 1,
+    }
 }

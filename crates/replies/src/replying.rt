@@ -1,4 +1,6 @@
 // The reply to a line.
+#![tactic(auto, using(crate::proofs::Texts::texts), unfolding(crate::specs::Replies::reads, crate::specs::Replies::reply_to))]
+
 ghost use Rattle.std.specs.Prelude.{◌≡◌, [], ◌≤◌, length};
 ghost use Rattle.answers.specs.Answers.{code_of, value_of};
 ghost use Rattle.lines.specs.Reply.{reply_of};
@@ -66,9 +68,10 @@ pub fn reply(
     requires { (4250 ≤ length space.old) × (8260 ≤ length out.old) }
     ensures { Happened (reply_to disk.old session.old number line.now space.old) disk.new session.new space.new out.old result out.new }
 {
-    let call = lines::parse_line(line);
+    let Some(call) = lines::parse_line(line) else {
+        return lines::put_unreadable_reply(out, number);
+    };
     match call {
-        Call::Unreadable => lines::put_unreadable_reply(out, number),
         Call::Read {
             transaction,
             handle,

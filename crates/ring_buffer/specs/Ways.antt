@@ -1,4 +1,4 @@
--- The ways out of each step of the bookkeeping, as the code takes them. Assumes nothing.
+-- The bookkeeping after each step, by cases: whether a push pushes bytes out, a cut reaches into the ring, the ring is empty. Assumes nothing.
 use Rattle.std.specs.Prelude.{◌≡◌, ℕ, ◌+◌, ◌-◌, ◌%◌, ◌^◌, ◌<◌, ◌≤◌, ◌≢◌}
 use Rattle.std.proofs.Math.Nat.{add-zero, mod-eq_of_lt, mod-add-mod, min-eq_left, min-eq_right}
 use native.Mathlib.Omega.{arith}

@@ -9,15 +9,15 @@ pub fn push_bytes(ring: RingBuffer, bytes: &mut [u8], data: &[u8])
     requires { Sound ring (length bytes.old) × (length «data».now ≤ ring.capacity) }
     ensures { bytes.new ≡ around ring.capacity bytes.old (ring.start + ring.len) «data».now }
 {
-    let capacity = ring.capacity;
-    let end = (ring.start + ring.len) % capacity;
-    let room = capacity - end;
+    let end = (ring.start + ring.len) % ring.capacity;
+    let room = ring.capacity - end;
     if data.len() <= room {
         octets::copy_in(bytes, end, data);
         return;
     }
-    octets::copy_in(bytes, end, &data[..room]);
-    octets::copy_in(bytes, 0, &data[room..]);
+    let (ahead, behind) = data.split_at(room);
+    octets::copy_in(bytes, end, ahead);
+    octets::copy_in(bytes, 0, behind);
 }
 
 // Fills out with the tape's bytes from the k-th behind the first index on, also above the held ones,
@@ -26,15 +26,13 @@ pub fn fill(ring: RingBuffer, bytes: &[u8], k: u64, out: &mut [u8])
     requires { Sound ring (length bytes.now) }
     ensures { out.new ≡ nths ring bytes.now k (length out.old) }
 {
-    let capacity = ring.capacity;
-    let skipped = (k % capacity as u64) as usize;
-    let mut place = (ring.start + skipped) % capacity;
+    let skipped = (k % ring.capacity as u64) as usize;
+    let mut place = (ring.start + skipped) % ring.capacity;
     let wanted = out.len();
     let mut done = 0;
+    // Tried with `chunks_mut` behind a first part: once it ends, a proof knows no element that it lent.
     while done < wanted {
-        let here = capacity - place;
-        let left = wanted - done;
-        let n = here.min(left);
+        let n = (ring.capacity - place).min(wanted - done);
         octets::copy_in(out, done, &bytes[place..place + n]);
         done += n;
         place = 0;
@@ -46,10 +44,8 @@ pub fn first_part<'a>(ring: RingBuffer, bytes: &'a [u8]) -> &'a [u8]
     requires { Sound ring (length bytes.now) }
     ensures { result.now ≡ first_part ring bytes.now }
 {
-    let start = ring.start;
-    let room = ring.capacity - start;
-    let n = ring.len.min(room);
-    &bytes[start..start + n]
+    let n = ring.len.min(ring.capacity - ring.start);
+    &bytes[ring.start..ring.start + n]
 }
 
 // The held bytes from the ring's beginning on, which follow the first part in the tape.
@@ -57,7 +53,5 @@ pub fn second_part<'a>(ring: RingBuffer, bytes: &'a [u8]) -> &'a [u8]
     requires { Sound ring (length bytes.now) }
     ensures { result.now ≡ second_part ring bytes.now }
 {
-    let room = ring.capacity - ring.start;
-    let n = ring.len - ring.len.min(room);
-    &bytes[..n]
+    &bytes[..ring.len.saturating_sub(ring.capacity - ring.start)]
 }

@@ -10,8 +10,6 @@
 
 mod bookkeeping;
 mod bytes;
-mod lent;
 
 pub use bookkeeping::RingBuffer;
 pub use bytes::{fill, first_part, push_bytes, second_part};
-pub use lent::{pop_lent, prepare_lent, push_lent, truncate_lent};

@@ -5,16 +5,14 @@ ghost use Rattle.layout.specs.Session.{session_bytes};
 ghost use Rattle.rolling_tape.specs.Reading.{may_read, piece_lies, can_read, piece_there, piece_bytes, lies, read_run};
 
 use crate::tracking::is_tracked;
+use components::Parts;
 
 // Whether the file in a slot may be read: where only tracked ones may, it has to be one.
 fn may_read(session: &[u8], only_tracked: bool, slot: usize) -> bool
     requires { (session_bytes ≤ length session.now) × (slot < 64) }
     ensures { result ≡ may_read session.now only_tracked slot }
 {
-    if only_tracked {
-        return is_tracked(session::get_tracking(session, slot));
-    }
-    true
+    !only_tracked || is_tracked(session::get_tracking(session, slot))
 }
 
 // Whether the file of a tape's number may be read and reaches up to a place.
@@ -29,15 +27,10 @@ fn piece_lies(
     requires { Sound disk.now × (session_bytes ≤ length session.now) }
     ensures { result ≡ piece_lies disk.now session.now only_tracked tape.now number end }
 {
-    let found = disk::find_file(disk, tape, number);
-    let Some(slot) = found else {
+    let Some(slot) = disk::find_file(disk, tape, number) else {
         return false;
     };
-    if may_read(session, only_tracked, slot) {
-        let file = disk::get_entry(disk, slot);
-        return end <= file.len;
-    }
-    false
+    may_read(session, only_tracked, slot) && end <= disk::get_entry(disk, slot).len
 }
 
 // Whether so many bytes of a tape from an offset on stand in its files.
@@ -53,16 +46,9 @@ pub fn can_read(
     requires { (Sound disk.now × (session_bytes ≤ length session.now)) × (((0 < file_size) × (file_size ≤ 4096)) × (offset + count ≤ 2 ^ 64)) }
     ensures { result ≡ can_read disk.now session.now only_tracked tape.now file_size offset count }
 {
-    let mut done = 0;
-    while done < count {
-        let here = offset + done as u64;
-        let left = components::left_in(file_size, here) as usize;
-        let n = (count - done).min(left);
-        let number = components::file_of(file_size, here);
-        let place = components::place_in(file_size, here) as usize;
-        if piece_lies(disk, session, only_tracked, tape, number, place + n) {
-            done += n;
-        } else {
+    for part in Parts::new(file_size, offset, count) {
+        let end = part.place + part.count;
+        if !piece_lies(disk, session, only_tracked, tape, part.file, end) {
             return false;
         }
     }
@@ -74,8 +60,7 @@ fn read_piece(disk: &[u8], tape: &[u8], number: u64, place: usize, out: &mut [u8
     requires { Sound disk.now × (piece_there disk.now tape.now number (place + length out.old) ≡ true) }
     ensures { out.new ≡ piece_bytes disk.now tape.now number place (length out.old) }
 {
-    let found = disk::find_file(disk, tape, number);
-    let Some(slot) = found else {
+    let Some(slot) = disk::find_file(disk, tape, number) else {
         return;
     };
     let part = disk::file_part(disk, slot);
@@ -88,15 +73,8 @@ pub fn read_run(disk: &[u8], tape: &[u8], file_size: u64, offset: u64, out: &mut
     requires { (Sound disk.now × ((0 < file_size) × (file_size ≤ 4096))) × ((offset + length out.old ≤ 2 ^ 64) × (lies disk.now tape.now file_size offset (length out.old) ≡ true)) }
     ensures { out.new ≡ read_run disk.now tape.now file_size offset (length out.old) }
 {
-    let mut done = 0;
-    while done < out.len() {
-        let here = offset + done as u64;
-        let left = components::left_in(file_size, here) as usize;
-        let n = (out.len() - done).min(left);
-        let number = components::file_of(file_size, here);
-        let place = components::place_in(file_size, here) as usize;
-        let end = done + n;
-        read_piece(disk, tape, number, place, &mut out[done..end]);
-        done = end;
+    for part in Parts::new(file_size, offset, out.len()) {
+        let end = part.from + part.count;
+        read_piece(disk, tape, part.file, part.place, &mut out[part.from..end]);
     }
 }

@@ -20,15 +20,11 @@ fn stops_below(
     ensures { result ≡ stops disk.now session.now place oldest number slot }
 {
     let file = disk::get_entry(disk, slot);
-    if file.owner == place + 1 {
-        if file.number <= number {
-            let now = session::get_tracking(session, slot);
-            if is_tracked(now) {
-                return !is_ripe(now, oldest);
-            }
-        }
+    if file.owner != place + 1 || number < file.number {
+        return false;
     }
-    false
+    let now = session::get_tracking(session, slot);
+    is_tracked(now) && !is_ripe(now, oldest)
 }
 
 // Whether every tracked file of the directory up to a number may go.
@@ -47,12 +43,11 @@ fn goes_now(disk: &[u8], session: &[u8], place: usize, oldest: u64, slot: usize)
     ensures { result ≡ goes disk.now session.now place oldest slot }
 {
     let file = disk::get_entry(disk, slot);
-    if file.owner == place + 1 {
-        if is_ripe(session::get_tracking(session, slot), oldest) {
-            return clear_below(disk, session, place, oldest, file.number);
-        }
+    if file.owner != place + 1 {
+        return false;
     }
-    false
+    is_ripe(session::get_tracking(session, slot), oldest)
+        && clear_below(disk, session, place, oldest, file.number)
 }
 
 fn remove_slot(disk: &mut [u8], session: &mut [u8], place: usize, oldest: u64, slot: usize)
@@ -70,8 +65,7 @@ pub fn remove_ripe(disk: &mut [u8], session: &mut [u8], place: usize, oldest: u6
     requires { (Sound disk.old × (session_bytes ≤ length session.old)) × (place < 8) }
     ensures { remove_ripe (areas disk.old session.old) place oldest ≡ areas disk.new session.new }
 {
-    let count = disk::slot_count(disk);
-    for i in 0..count {
-        remove_slot(disk, session, place, oldest, i);
+    for slot in 0..disk::slot_count(disk) {
+        remove_slot(disk, session, place, oldest, slot);
     }
 }

@@ -9,11 +9,7 @@ pub fn has_file(disk: &[u8], place: usize, number: u64) -> bool
     requires { Sound disk.now × (place < 8) }
     ensures { result ≡ on_disk disk.now place number }
 {
-    let found = disk::find_in(disk, place, number);
-    match found {
-        Some(_) => true,
-        None => false,
-    }
+    disk::find_in(disk, place, number).is_some()
 }
 
 // How many files of some numbers a directory lacks, counted up to a most: a long run is left as soon as

@@ -7,7 +7,7 @@ ghost use Rattle.rolling_tape.specs.Tracking.{is_tracked, is_ripe, marked, clear
 use session::Tracking;
 
 // A change of what is tracked, by the files' numbers.
-#[derive(Clone, Copy)]
+#[derive(Clone, Copy, Debug, PartialEq, Eq)]
 pub enum Change {
     // Making a file untracks those with higher numbers.
     UntrackAbove(u64),
@@ -24,20 +24,14 @@ pub enum Change {
 pub fn is_tracked(now: Tracking) -> bool
     ensures { result ≡ is_tracked now }
 {
-    match now {
-        Tracking::Untracked => false,
-        _ => true,
-    }
+    !matches!(now, Tracking::Untracked)
 }
 
 // Whether a file is marked below an epoch.
 pub fn is_ripe(now: Tracking, oldest: u64) -> bool
     ensures { result ≡ is_ripe oldest now }
 {
-    match now {
-        Tracking::Marked(epoch) => epoch < oldest,
-        _ => false,
-    }
+    matches!(now, Tracking::Marked(epoch) if epoch < oldest)
 }
 
 fn mark(now: Tracking, epoch: u64) -> Tracking
@@ -63,34 +57,16 @@ fn change_one(change: Change, number: u64, now: Tracking) -> Tracking
     ensures { result ≡ changed change number now }
 {
     match change {
-        Change::UntrackAbove(kept) => {
-            if kept < number {
-                return Tracking::Untracked;
-            }
-            now
-        }
-        Change::TrackUpTo(last) => {
-            if number <= last {
-                return Tracking::Tracked;
-            }
-            Tracking::Untracked
-        }
+        Change::UntrackAbove(kept) if kept < number => Tracking::Untracked,
+        Change::TrackUpTo(last) if number <= last => Tracking::Tracked,
+        Change::TrackUpTo(_) => Tracking::Untracked,
         Change::MarkBelow {
             number: start,
             epoch,
-        } => {
-            if number < start {
-                return mark(now, epoch);
-            }
-            now
-        }
-        Change::ClearFrom(first) => {
-            if first <= number {
-                return clear(now);
-            }
-            now
-        }
+        } if number < start => mark(now, epoch),
+        Change::ClearFrom(first) if first <= number => clear(now),
         Change::UntrackAll => Tracking::Untracked,
+        _ => now,
     }
 }
 
@@ -100,11 +76,11 @@ fn retrack_slot(disk: &[u8], session: &mut [u8], place: usize, slot: usize, chan
     ensures { session.new ≡ retrack_slot disk.now place change slot session.old }
 {
     let file = disk::get_entry(disk, slot);
-    if file.owner == place + 1 {
-        let now = session::get_tracking(session, slot);
-        let then = change_one(change, file.number, now);
-        session::put_tracking(session, slot, then);
+    if file.owner != place + 1 {
+        return;
     }
+    let now = session::get_tracking(session, slot);
+    session::put_tracking(session, slot, change_one(change, file.number, now));
 }
 
 // The change of every file of a directory.
@@ -112,8 +88,7 @@ pub fn retrack(disk: &[u8], session: &mut [u8], place: usize, change: Change)
     requires { (Sound disk.now × (session_bytes ≤ length session.old)) × (place < 8) }
     ensures { session.new ≡ retracked disk.now session.old place change }
 {
-    let count = disk::slot_count(disk);
-    for i in 0..count {
-        retrack_slot(disk, session, place, i, change);
+    for slot in 0..disk::slot_count(disk) {
+        retrack_slot(disk, session, place, slot, change);
     }
 }

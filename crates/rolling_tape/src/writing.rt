@@ -8,6 +8,7 @@ ghost use Rattle.rolling_tape.specs.Writing.{was_tracked, track_file, make_track
 
 use crate::room::has_file;
 use crate::tracking::{Change, is_tracked, retrack};
+use components::Parts;
 use session::Tracking;
 
 // Whether the file in a slot was there before and is tracked. What the row of a free slot says is no
@@ -16,10 +17,7 @@ fn was_tracked(session: &[u8], there: bool, slot: usize) -> bool
     requires { (session_bytes ≤ length session.now) × (slot < 64) }
     ensures { result ≡ was_tracked session.now there slot }
 {
-    if there {
-        return is_tracked(session::get_tracking(session, slot));
-    }
-    false
+    there && is_tracked(session::get_tracking(session, slot))
 }
 
 // The file in a slot is tracked from now on; one that was not untracks those with higher numbers.
@@ -41,8 +39,7 @@ fn make_tracked(disk: &mut [u8], session: &mut [u8], place: usize, number: u64)
     ensures { make_tracked (areas disk.old session.old) place number ≡ areas disk.new session.new }
 {
     let there = has_file(disk, place, number);
-    let made = disk::make_file(disk, place, number);
-    let Some(slot) = made else {
+    let Some(slot) = disk::make_file(disk, place, number) else {
         return;
     };
     track_file(disk, session, place, number, there, slot);
@@ -63,8 +60,7 @@ fn write_piece(disk: &mut [u8], place: usize, number: u64, at: usize, src: &[u8]
     requires { (Sound disk.old × (place < 8)) × ((0 < length src.now) × (at + length src.now ≤ 4096)) }
     ensures { disk.new ≡ write_piece disk.old place number at src.now }
 {
-    let found = disk::find_in(disk, place, number);
-    let Some(slot) = found else {
+    let Some(slot) = disk::find_in(disk, place, number) else {
         return;
     };
     disk::write_at(disk, slot, at, src);
@@ -75,19 +71,8 @@ pub fn write_run(disk: &mut [u8], place: usize, file_size: u64, offset: u64, src
     requires { (Sound disk.old × (place < 8)) × (((0 < file_size) × (file_size ≤ 4096)) × (offset + length src.now ≤ 2 ^ 64)) }
     ensures { disk.new ≡ write_run disk.old place file_size offset src.now }
 {
-    let mut done = 0;
-    while done < src.len() {
-        let here = offset + done as u64;
-        let left = components::left_in(file_size, here) as usize;
-        let n = (src.len() - done).min(left);
-        let end = done + n;
-        write_piece(
-            disk,
-            place,
-            components::file_of(file_size, here),
-            components::place_in(file_size, here) as usize,
-            &src[done..end],
-        );
-        done = end;
+    for part in Parts::new(file_size, offset, src.len()) {
+        let end = part.from + part.count;
+        write_piece(disk, place, part.file, part.place, &src[part.from..end]);
     }
 }

@@ -1,6 +1,6 @@
 -- A `format` that is served leaves an empty disk and no session; a `store` that is served on an empty disk, whatever session area is lent, is orderly, and
 -- of every tape is seen the store that `lives` begins with. Assumes nothing.
-use Rattle.std.specs.Prelude.{◌≡◌, refl, false, ℕ, zero, suc, ◌+◌, ◌<◌, take, None}
+use Rattle.std.specs.Prelude.{◌≡◌, refl, false, ℕ, zero, suc, ◌+◌, ◌<◌, take, Option, Some, None}
 use Rattle.std.proofs.Math.Path.{sym, ap}
 use Rattle.std.proofs.Common.{◌∙◌, arith}
 use Rattle.std.proofs.lemmas.Bool.{false≢true}
@@ -17,8 +17,7 @@ use Rattle.metadata.specs.Choice.{part_of, left_counts, chosen, chosen_epoch, ch
 use Rattle.metadata.specs.Decoding.{tapes}
 use Rattle.metadata.specs.Record.{read_record}
 use Rattle.metadata.specs.RecordLaws.{none-epoch, none_list}
-use Rattle.metadata.specs.declared.record.Reading.{Reading}
-use Rattle.metadata.specs.declared.record.Reading.TheVariants.{Whole, Empty}
+use Rattle.metadata.specs.declared.record.Record.{Record}
 use Rattle.metadata.specs.declared.choice.Side.TheVariants.{Left, Right}
 use Rattle.layout.specs.Disk.{directories, slots, owner}
 use Rattle.layout.specs.Disk as D
@@ -46,9 +45,9 @@ take_none zero = refl
 take_none (suc n) = refl
 
 -- an empty file has no record
-part_none : (r : Reading) → part_of [] r ≡ []
-part_none (Whole epoch list) = take_none (48 + list)
-part_none Empty = refl
+part_none : (r : Option Record) → part_of [] r ≡ []
+part_none (Some r) = take_none (48 + r.list_len)
+part_none None = refl
 
 chosen_none : chosen [] [] ≡ []
 unfolding chosen

@@ -3,7 +3,6 @@ ghost use Rattle.std.specs.Prelude.{◌≡◌, ◌≤◌, length};
 ghost use Rattle.layout.specs.Session.{session_bytes};
 ghost use Rattle.session.specs.Rows.{side_for, side_word, head_of, put_head};
 
-use crate::words::{flag_word, is_set};
 use layout::Session;
 use metadata::Side;
 
@@ -21,13 +20,14 @@ pub struct Head {
     pub last_handle: u64,
 }
 
+// The sides' numbers are the area's (docs/LAYOUT.md), and `Side` is the metadata's, so no `From` stands here.
 fn side_for(word: u64) -> Side
     ensures { result ≡ side_for word }
 {
-    if word == 0 {
-        return Side::Left;
+    match word {
+        0 => Side::Left,
+        _ => Side::Right,
     }
-    Side::Right
 }
 
 fn side_word(side: Side) -> u64
@@ -43,17 +43,12 @@ pub fn get_head(session: &[u8]) -> Head
     requires { session_bytes ≤ length session.now }
     ensures { result ≡ head_of session.now }
 {
-    let epoch = octets::u64_at(session, Session::HEAD);
-    let cut = is_set(octets::u64_at(session, Session::HEAD + 8));
-    let side = side_for(octets::u64_at(session, Session::HEAD + 16));
-    let last_transaction = octets::u64_at(session, Session::HEAD + 24);
-    let last_handle = octets::u64_at(session, Session::HEAD + 32);
     Head {
-        epoch: epoch,
-        cut: cut,
-        side: side,
-        last_transaction: last_transaction,
-        last_handle: last_handle,
+        epoch: octets::u64_at(session, Session::HEAD),
+        cut: octets::u64_at(session, Session::HEAD + 8) != 0,
+        side: side_for(octets::u64_at(session, Session::HEAD + 16)),
+        last_transaction: octets::u64_at(session, Session::HEAD + 24),
+        last_handle: octets::u64_at(session, Session::HEAD + 32),
     }
 }
 
@@ -61,10 +56,9 @@ pub fn put_head(session: &mut [u8], head: Head)
     requires { session_bytes ≤ length session.old }
     ensures { session.new ≡ put_head session.old head }
 {
-    let side = head.side;
     octets::put_u64(session, Session::HEAD, head.epoch);
-    octets::put_u64(session, Session::HEAD + 8, flag_word(head.cut));
-    octets::put_u64(session, Session::HEAD + 16, side_word(side));
+    octets::put_u64(session, Session::HEAD + 8, u64::from(head.cut));
+    octets::put_u64(session, Session::HEAD + 16, side_word(head.side));
     octets::put_u64(session, Session::HEAD + 24, head.last_transaction);
     octets::put_u64(session, Session::HEAD + 32, head.last_handle);
 }

@@ -17,7 +17,6 @@ mod tape_rows;
 mod tracking;
 mod transactions;
 mod views;
-mod words;
 
 pub use head::{Head, get_head, put_head};
 pub use names::{find_tape, put_tape_name, tape_name};

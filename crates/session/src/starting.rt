@@ -28,9 +28,9 @@ fn clear(session: &mut [u8], epoch: u64, side: Side)
     put_head(
         session,
         Head {
-            epoch: epoch,
+            epoch,
             cut: false,
-            side: side,
+            side,
             last_transaction: 0,
             last_handle: 0,
         },
@@ -43,8 +43,7 @@ fn list_tape(session: &mut [u8], place: usize, tape: TapeMetadata)
     ensures { session.new ≡ listed session.old place (meaning tape) }
 {
     let letters = tape.letters.min(TapeMetadata::MOST_LETTERS);
-    let name = tape.name;
-    put_tape_name(session, place, &name[..letters]);
+    put_tape_name(session, place, &tape.name[..letters]);
     put_view(
         session,
         Session::LIST,
@@ -63,7 +62,7 @@ pub fn begin(session: &mut [u8], epoch: u64, side: Side, list: TapeList)
 {
     clear(session, epoch, side);
     let count = list.count.min(TapeList::MOST_NAMES);
-    for i in 0..count {
-        list_tape(session, i, list.tapes[i]);
+    for (place, tape) in list.tapes[..count].iter().enumerate() {
+        list_tape(session, place, *tape);
     }
 }

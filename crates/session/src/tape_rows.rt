@@ -4,22 +4,23 @@ ghost use Rattle.layout.specs.Session.{session_bytes};
 ghost use Rattle.session.specs.Meaning.{no_handle, untouched};
 ghost use Rattle.session.specs.Rows.{handle_of, put_handle, ring_of, put_ring, staged_of, put_staged, is_handle, find_handle};
 
-use crate::words::{flag_word, is_set};
 use layout::Session;
 use ring_buffer::RingBuffer;
 
-#[derive(Clone, Copy)]
+#[derive(Clone, Copy, Debug, PartialEq, Eq)]
 pub struct Handle {
-    // 0 if the tape is not open in this session.
+    // 0 if the tape is not open in this session. No `Option`: `handle_of` and `put_handle` say all three
+    // words of every row.
     pub number: u64,
     // The sizes that the tape was opened with.
     pub entry: u64,
     pub file_size: u64,
 }
 
-#[derive(Clone, Copy)]
+#[derive(Clone, Copy, Debug, PartialEq, Eq)]
 pub struct Staged {
-    // Whether the open transaction touched the tape; else the other fields mean nothing.
+    // Whether the open transaction touched the tape; else the other fields mean nothing. No `Option` of
+    // them: `staged_of` and `put_staged` say all five words of every row.
     pub touched: bool,
     // The tape's length when the transaction got it.
     pub base: u64,
@@ -62,13 +63,10 @@ pub fn get_handle(session: &[u8], tape: usize) -> Handle
     ensures { result ≡ handle_of session.now tape }
 {
     let at = Session::TAPES + tape * Session::TAPE_BYTES;
-    let number = octets::u64_at(session, at);
-    let entry = octets::u64_at(session, at + 8);
-    let file_size = octets::u64_at(session, at + 16);
     Handle {
-        number: number,
-        entry: entry,
-        file_size: file_size,
+        number: octets::u64_at(session, at),
+        entry: octets::u64_at(session, at + 8),
+        file_size: octets::u64_at(session, at + 16),
     }
 }
 
@@ -87,15 +85,11 @@ pub fn get_ring(session: &[u8], tape: usize) -> RingBuffer
     ensures { result ≡ ring_of session.now tape }
 {
     let at = Session::TAPES + tape * Session::TAPE_BYTES + Session::RING;
-    let capacity = octets::u64_at(session, at) as usize;
-    let start = octets::u64_at(session, at + 8) as usize;
-    let len = octets::u64_at(session, at + 16) as usize;
-    let first = octets::u64_at(session, at + 24);
     RingBuffer {
-        capacity: capacity,
-        start: start,
-        len: len,
-        first: first,
+        capacity: octets::u64_at(session, at) as usize,
+        start: octets::u64_at(session, at + 8) as usize,
+        len: octets::u64_at(session, at + 16) as usize,
+        first: octets::u64_at(session, at + 24),
     }
 }
 
@@ -115,17 +109,12 @@ pub fn get_staged(session: &[u8], tape: usize) -> Staged
     ensures { result ≡ staged_of session.now tape }
 {
     let at = Session::TAPES + tape * Session::TAPE_BYTES + Session::STAGED;
-    let touched = is_set(octets::u64_at(session, at));
-    let base = octets::u64_at(session, at + 8);
-    let len = octets::u64_at(session, at + 16);
-    let start = octets::u64_at(session, at + 24);
-    let unwritten = octets::u64_at(session, at + 32) as usize;
     Staged {
-        touched: touched,
-        base: base,
-        len: len,
-        start: start,
-        unwritten: unwritten,
+        touched: octets::u64_at(session, at) != 0,
+        base: octets::u64_at(session, at + 8),
+        len: octets::u64_at(session, at + 16),
+        start: octets::u64_at(session, at + 24),
+        unwritten: octets::u64_at(session, at + 32) as usize,
     }
 }
 
@@ -134,7 +123,7 @@ pub fn put_staged(session: &mut [u8], tape: usize, row: Staged)
     ensures { session.new ≡ put_staged session.old tape row }
 {
     let at = Session::TAPES + tape * Session::TAPE_BYTES + Session::STAGED;
-    octets::put_u64(session, at, flag_word(row.touched));
+    octets::put_u64(session, at, u64::from(row.touched));
     octets::put_u64(session, at + 8, row.base);
     octets::put_u64(session, at + 16, row.len);
     octets::put_u64(session, at + 24, row.start);
@@ -146,10 +135,8 @@ fn is_handle(session: &[u8], tape: usize, number: u64) -> bool
     requires { (session_bytes ≤ length session.now) × (tape < 8) }
     ensures { result ≡ is_handle session.now number tape }
 {
-    if number == 0 {
-        return false;
-    }
-    octets::u64_at(session, Session::TAPES + tape * Session::TAPE_BYTES) == number
+    let at = Session::TAPES + tape * Session::TAPE_BYTES;
+    number != 0 && octets::u64_at(session, at) == number
 }
 
 // The tape that has a handle; none has the number 0.

@@ -5,7 +5,7 @@ ghost use Rattle.session.specs.Rows.{tracking_for, tracking_code, tracking_epoch
 
 use layout::Session;
 
-#[derive(Clone, Copy)]
+#[derive(Clone, Copy, Debug, PartialEq, Eq)]
 pub enum Tracking {
     Untracked,
     Tracked,
@@ -13,34 +13,27 @@ pub enum Tracking {
     Marked(u64),
 }
 
-fn tracking_for(word: u64, epoch: u64) -> Tracking
-    ensures { result ≡ tracking_for word epoch }
-{
-    match word {
-        0 => Tracking::Untracked,
-        1 => Tracking::Tracked,
-        _ => Tracking::Marked(epoch),
+// The two words are the area's (docs/LAYOUT.md).
+impl Tracking {
+    fn from_words(word: u64, epoch: u64) -> Tracking
+        ensures { result ≡ tracking_for word epoch }
+    {
+        match word {
+            0 => Tracking::Untracked,
+            1 => Tracking::Tracked,
+            _ => Tracking::Marked(epoch),
+        }
     }
-}
 
-fn tracking_code(row: Tracking) -> u64
-    ensures { result ≡ tracking_code row }
-{
-    match row {
-        Tracking::Untracked => 0,
-        Tracking::Tracked => 1,
-        Tracking::Marked(_) => 2,
-    }
-}
-
-// The epoch of a mark; 0 where there is none.
-fn tracking_epoch(row: Tracking) -> u64
-    ensures { result ≡ tracking_epoch row }
-{
-    match row {
-        Tracking::Untracked => 0,
-        Tracking::Tracked => 0,
-        Tracking::Marked(epoch) => epoch,
+    // The epoch's is 0 where there is no mark.
+    fn words(self) -> (u64, u64)
+        ensures { (result.0 ≡ tracking_code self) × (result.1 ≡ tracking_epoch self) }
+    {
+        match self {
+            Tracking::Untracked => (0, 0),
+            Tracking::Tracked => (1, 0),
+            Tracking::Marked(epoch) => (2, epoch),
+        }
     }
 }
 
@@ -49,9 +42,7 @@ pub fn get_tracking(session: &[u8], slot: usize) -> Tracking
     ensures { result ≡ tracking_of session.now slot }
 {
     let at = Session::TRACKING + slot * Session::TRACKING_BYTES;
-    let word = octets::u64_at(session, at);
-    let epoch = octets::u64_at(session, at + 8);
-    tracking_for(word, epoch)
+    Tracking::from_words(octets::u64_at(session, at), octets::u64_at(session, at + 8))
 }
 
 pub fn put_tracking(session: &mut [u8], slot: usize, row: Tracking)
@@ -59,6 +50,7 @@ pub fn put_tracking(session: &mut [u8], slot: usize, row: Tracking)
     ensures { session.new ≡ put_tracking session.old slot row }
 {
     let at = Session::TRACKING + slot * Session::TRACKING_BYTES;
-    octets::put_u64(session, at, tracking_code(row));
-    octets::put_u64(session, at + 8, tracking_epoch(row));
+    let (word, epoch) = row.words();
+    octets::put_u64(session, at, word);
+    octets::put_u64(session, at + 8, epoch);
 }

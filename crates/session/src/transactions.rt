@@ -6,7 +6,8 @@ ghost use Rattle.session.specs.Rows.{kind_for, kind_code, transaction_of, put_tr
 
 use layout::Session;
 
-#[derive(Clone, Copy)]
+// A transaction's kind; its number is the area's (docs/LAYOUT.md).
+#[derive(Clone, Copy, Debug, PartialEq, Eq)]
 pub enum Kind {
     Closed,
     Reader,
@@ -14,8 +15,10 @@ pub enum Kind {
     Truncate,
 }
 
-#[derive(Clone, Copy)]
+#[derive(Clone, Copy, Debug, PartialEq, Eq)]
 pub struct Transaction {
+    // Also `Closed`, and no `Option` around: `transaction_of` and `put_transaction` say all three words
+    // of every row.
     pub kind: Kind,
     pub number: u64,
     // The session's epoch when the transaction began.
@@ -35,25 +38,24 @@ impl Transaction {
     }
 }
 
-fn kind_for(word: u64) -> Kind
-    ensures { result ≡ kind_for word }
-{
-    match word {
-        0 => Kind::Closed,
-        1 => Kind::Reader,
-        2 => Kind::Append,
-        _ => Kind::Truncate,
+impl From<u64> for Kind {
+    ghost from_gives = { λ word kind. kind ≡ kind_for word };
+
+    fn from(word: u64) -> Kind {
+        match word {
+            0 => Kind::Closed,
+            1 => Kind::Reader,
+            2 => Kind::Append,
+            _ => Kind::Truncate,
+        }
     }
 }
 
-fn kind_code(kind: Kind) -> u64
-    ensures { result ≡ kind_code kind }
-{
-    match kind {
-        Kind::Closed => 0,
-        Kind::Reader => 1,
-        Kind::Append => 2,
-        Kind::Truncate => 3,
+impl From<Kind> for u64 {
+    ghost from_gives = { λ kind word. word ≡ kind_code kind };
+
+    fn from(kind: Kind) -> u64 {
+        kind as u64
     }
 }
 
@@ -62,13 +64,10 @@ pub fn get_transaction(session: &[u8], place: usize) -> Transaction
     ensures { result ≡ transaction_of session.now place }
 {
     let at = Session::TRANSACTIONS + place * Session::TRANSACTION_BYTES;
-    let kind = kind_for(octets::u64_at(session, at));
-    let number = octets::u64_at(session, at + 8);
-    let epoch = octets::u64_at(session, at + 16);
     Transaction {
-        kind: kind,
-        number: number,
-        epoch: epoch,
+        kind: Kind::from(octets::u64_at(session, at)),
+        number: octets::u64_at(session, at + 8),
+        epoch: octets::u64_at(session, at + 16),
     }
 }
 
@@ -77,8 +76,7 @@ pub fn put_transaction(session: &mut [u8], place: usize, row: Transaction)
     ensures { session.new ≡ put_transaction session.old place row }
 {
     let at = Session::TRANSACTIONS + place * Session::TRANSACTION_BYTES;
-    let kind = row.kind;
-    octets::put_u64(session, at, kind_code(kind));
+    octets::put_u64(session, at, u64::from(row.kind));
     octets::put_u64(session, at + 8, row.number);
     octets::put_u64(session, at + 16, row.epoch);
 }
@@ -89,10 +87,7 @@ fn is_open_as(session: &[u8], place: usize, number: u64) -> bool
     ensures { result ≡ is_open_as session.now number place }
 {
     let at = Session::TRANSACTIONS + place * Session::TRANSACTION_BYTES;
-    if octets::u64_at(session, at) == 0 {
-        return false;
-    }
-    octets::u64_at(session, at + 8) == number
+    octets::u64_at(session, at) != 0 && octets::u64_at(session, at + 8) == number
 }
 
 // The place of the open transaction of a number.
@@ -111,10 +106,8 @@ fn is_closed(session: &[u8], place: usize) -> bool
     requires { (session_bytes ≤ length session.now) × (place < 17) }
     ensures { result ≡ is_closed session.now place }
 {
-    octets::u64_at(
-        session,
-        Session::TRANSACTIONS + place * Session::TRANSACTION_BYTES,
-    ) == 0
+    let at = Session::TRANSACTIONS + place * Session::TRANSACTION_BYTES;
+    octets::u64_at(session, at) == 0
 }
 
 // The first reader place that is closed.

@@ -5,11 +5,11 @@ ghost use Rattle.layout.specs.Session.{session_bytes};
 ghost use Rattle.session.specs.Meaning.{no_view};
 ghost use Rattle.session.specs.Rows.{view_of, put_view, copy_view};
 
-use crate::words::{flag_word, is_set};
 use layout::Session;
 
-#[derive(Clone, Copy)]
+#[derive(Clone, Copy, Debug, PartialEq, Eq)]
 pub struct View {
+    // No `Option` of the two below: `view_of` and `put_view` say all three words of every row.
     pub listed: bool,
     pub len: u64,
     pub start: u64,
@@ -34,13 +34,10 @@ pub fn get_view(session: &[u8], whose: usize, tape: usize) -> View
     ensures { result ≡ view_of session.now whose tape }
 {
     let at = Session::VIEWS + whose * Session::VIEW_BYTES + tape * Session::VIEW_ROW;
-    let listed = is_set(octets::u64_at(session, at));
-    let len = octets::u64_at(session, at + 8);
-    let start = octets::u64_at(session, at + 16);
     View {
-        listed: listed,
-        len: len,
-        start: start,
+        listed: octets::u64_at(session, at) != 0,
+        len: octets::u64_at(session, at + 8),
+        start: octets::u64_at(session, at + 16),
     }
 }
 
@@ -49,7 +46,7 @@ pub fn put_view(session: &mut [u8], whose: usize, tape: usize, row: View)
     ensures { session.new ≡ put_view session.old whose tape row }
 {
     let at = Session::VIEWS + whose * Session::VIEW_BYTES + tape * Session::VIEW_ROW;
-    octets::put_u64(session, at, flag_word(row.listed));
+    octets::put_u64(session, at, u64::from(row.listed));
     octets::put_u64(session, at + 8, row.len);
     octets::put_u64(session, at + 16, row.start);
 }
@@ -61,6 +58,6 @@ pub fn copy_view(session: &mut [u8], from: usize, to: usize)
 {
     let at = Session::VIEWS + from * Session::VIEW_BYTES;
     let mut rows = [0u8; Session::VIEW_BYTES];
-    octets::copy_in(&mut rows, 0, &session[at..at + Session::VIEW_BYTES]);
+    rows.copy_from_slice(&session[at..at + Session::VIEW_BYTES]);
     octets::copy_in(session, Session::VIEWS + to * Session::VIEW_BYTES, &rows);
 }

@@ -1,4 +1,5 @@
 pub mod Seeing
+pub mod Guards
 pub mod Shifting
 pub mod Cutting
 pub mod Ways

@@ -1,5 +1,5 @@
 -- The ways out of each function, in the code's order: a law for each. Assumes nothing.
-use Rattle.std.specs.Prelude.{◌≡◌, refl, ◌≢◌, true, false, not, List, ℕ, ◌*◌, ◌-◌, ◌/◌, ◌<◌, eqb, Some, None, Ok, Err}
+use Rattle.std.specs.Prelude.{◌≡◌, refl, ◌≢◌, Bool, true, false, not, cond, List, ℕ, ◌*◌, ◌-◌, ◌/◌, ◌<◌, eqb, Some, None, Ok, Err}
 use Rattle.std.proofs.Common.{sym, ap, ◌∙◌, true≢false}
 use Rattle.std.proofs.Math.Bool.{and-false}
 use native.Mathlib.Omega.{arith}
@@ -8,7 +8,8 @@ use Rattle.octets.specs.Cases.{and_l, and_r}
 use Rattle.octets.specs.First.{first-hits}
 use Rattle.answers.specs.declared.Refusal.TheVariants.{Unusable, Unknown, Absent, StartPastLength, LongerCut}
 use Rattle.components.specs.Bounds.{up_to, shifted_start}
-use Rattle.layout.specs.Session.{handle_number, Begun}
+use Rattle.layout.specs.Session.{handle_number, entry_size_of, Begun}
+use Rattle.session.specs.RowLaws.{handle-entry}
 use Rattle.session.specs.Rows.{view_of, staged_of, handle_of, put_staged, transaction_of, is_open_as, find_transaction, is_handle, find_handle}
 use Rattle.session.specs.declared.views.View.{View}
 use Rattle.session.specs.declared.tape_rows.Handle.{Handle}
@@ -18,6 +19,7 @@ use Rattle.session.specs.declared.transactions.Kind.{Kind}
 use Rattle.session.specs.declared.transactions.Kind.TheVariants.{Closed, Reader, Append, Truncate}
 use Rattle.beginning.specs.Transactions.{after, refused, usable}
 use Rattle.staging.specs.Seeing.{is_append, is_truncate, writes, cuts, seen_by, touched_as, in_entries, len_on, start_on, len_call, start_call}
+use Rattle.staging.specs.Guards.{listed_by}
 use Rattle.staging.specs.Shifting.{shifted, shift_on, shift_call}
 use Rattle.staging.specs.Cutting.{cut_to, cut_on, drop_on, cut_call, drop_call}
 
@@ -44,6 +46,12 @@ pub entry-some : (s : List ℕ) (p : ℕ) → Begun s → p < 8 → handle_numbe
 unfolding handle_of
 entry-some s p b low held = (b.tapes p low held).entry-some
 
+pub held_entry : (s : List ℕ) (p : ℕ) → Begun s → Held s p → 0 < (handle_of s p).entry
+held_entry s p b h = entry-some s p b h.low h.held
+
+pub entry_size : (s : List ℕ) (p : ℕ) → (handle_of s p).entry ≡ entry_size_of s p
+entry_size s p = handle-entry s p (handle_of s p) refl
+
 -- ---- what is seen, by the rows that the code reads
 
 module _ (s : List ℕ) (p : ℕ) (r : Staged) (row : r ≡ staged_of s p) where
@@ -63,6 +71,15 @@ module _ (s : List ℕ) (p : ℕ) (r : Staged) (row : r ≡ staged_of s p) where
       → record { touched = true; base = v.len; len = v.len; start = v.start; unwritten = 0 } ≡ touched_as s p
   unfolding touched_as
   touched-now v e h = rw (← row, h, ← e)
+
+-- a tape that is listed is what is seen of it
+by_flag : (v w : View) (b : Bool) → w.listed ≡ b → cond b (Ok w) (Err Absent) ≡ Ok v → (v ≡ w) × (v.listed ≡ true)
+by_flag v w true l e = (cc, cc)
+by_flag v w false l e = absurd (cc)
+
+pub listed-seen : (s : List ℕ) (t p : ℕ) (v : View) → listed_by s t p ≡ Ok v → (v ≡ seen_by s t p) × (v.listed ≡ true)
+unfolding listed_by
+listed-seen s t p v e = by_flag v (seen_by s t p) (seen_by s t p).listed refl e
 
 pub seen-view : (s : List ℕ) (t p : ℕ) → t ≢ 16 → view_of s t p ≡ seen_by s t p
 unfolding seen_by

@@ -1,13 +1,15 @@
 // A shorter length, staged in a truncate.
-ghost use Rattle.std.specs.Prelude.{◌≡◌, ◌≢◌, ◌<◌};
-ghost use Rattle.layout.specs.Session.{Begun, handle_number};
+ghost use Rattle.std.specs.Prelude.{◌≡◌, ◌<◌};
+ghost use Rattle.layout.specs.Session.{Begun};
 ghost use Rattle.beginning.specs.Transactions.{after};
 ghost use Rattle.staging.specs.Cutting.{cut_to, cut_on, drop_on, cut_call, drop_call};
+ghost use Rattle.staging.specs.Ways.{Held};
 
-use crate::seeing::{is_cutting, seen_by, touched_as};
+use crate::guards::{offset_up_to, tape_to_change};
+use crate::seeing::{seen_by, touched_as};
 use answers::Refusal;
 use layout::Session;
-use session::Staged;
+use session::{Kind, Staged};
 
 // A length, staged; nothing is left unwritten.
 pub fn put_len(session: &mut [u8], tape: usize, len: u64)
@@ -20,44 +22,30 @@ pub fn put_len(session: &mut [u8], tape: usize, len: u64)
         tape,
         Staged {
             touched: true,
-            base: row.base,
-            len: len,
-            start: row.start,
+            len,
             unwritten: 0,
+            ..row
         },
     );
 }
 
 fn cut_on(session: &mut [u8], tape: usize, index: u64) -> Result<u64, Refusal>
-    requires { Begun session.old × ((tape < 8) × (handle_number session.old tape ≢ 0)) }
+    requires { Begun session.old × Held session.old tape }
     ensures { cut_on session.old tape index ≡ after result session.new }
 {
-    let seen = seen_by(session, Session::WRITER, tape);
-    if seen.listed {
-        let handle = session::get_handle(session, tape);
-        let entry = handle.entry;
-        if components::up_to(entry, index, seen.len) {
-            put_len(session, tape, index * entry);
-            return Ok(0);
-        }
-        return Err(Refusal::LongerCut);
-    }
-    Err(Refusal::Absent)
+    let len = offset_up_to(session, tape, index, Refusal::LongerCut)?;
+    put_len(session, tape, len);
+    Ok(0)
 }
 
 // So many entries dropped from the end, at most all of them.
 fn drop_on(session: &mut [u8], tape: usize, count: u64) -> Result<u64, Refusal>
-    requires { Begun session.old × ((tape < 8) × (handle_number session.old tape ≢ 0)) }
+    requires { Begun session.old × Held session.old tape }
     ensures { drop_on session.old tape count ≡ after result session.new }
 {
     let seen = seen_by(session, Session::WRITER, tape);
-    let handle = session::get_handle(session, tape);
-    let entry = handle.entry;
-    let entries = seen.len / entry;
-    if entries < count {
-        return cut_on(session, tape, 0);
-    }
-    cut_on(session, tape, entries - count)
+    let entries = seen.len / session::get_handle(session, tape).entry;
+    cut_on(session, tape, entries.saturating_sub(count))
 }
 
 // Cuts a tape to a length in entries. Refused: 1, 2, 11, 14.
@@ -70,16 +58,8 @@ pub fn truncate_tape(
 ) -> Result<u64, Refusal>
     ensures { cut_call disk.now session.old transaction handle len ≡ after result session.new }
 {
-    if beginning::is_usable(disk, session) {
-        if is_cutting(session, transaction) {
-            let Some(tape) = session::find_handle(session, handle) else {
-                return Err(Refusal::Unknown);
-            };
-            return cut_on(session, tape, len);
-        }
-        return Err(Refusal::Unknown);
-    }
-    Err(Refusal::Unusable)
+    let tape = tape_to_change(disk, session, Kind::Truncate, transaction, handle)?;
+    cut_on(session, tape, len)
 }
 
 // Drops entries from a tape's end; it stops at 0. Refused: 1, 2, 11.
@@ -92,14 +72,6 @@ pub fn drop_entries(
 ) -> Result<u64, Refusal>
     ensures { drop_call disk.now session.old transaction handle count ≡ after result session.new }
 {
-    if beginning::is_usable(disk, session) {
-        if is_cutting(session, transaction) {
-            let Some(tape) = session::find_handle(session, handle) else {
-                return Err(Refusal::Unknown);
-            };
-            return drop_on(session, tape, count);
-        }
-        return Err(Refusal::Unknown);
-    }
-    Err(Refusal::Unusable)
+    let tape = tape_to_change(disk, session, Kind::Truncate, transaction, handle)?;
+    drop_on(session, tape, count)
 }

@@ -1,4 +1,4 @@
-// The store as a static library for C and Rust (`rt staticlib tapes`): every call on numbers and byte
+// The store as a static library for C and Rust (`rt lib`): every call on numbers and byte
 // slices. A slice is a pointer and a length, in this order; a call answers a code, document 01's number
 // or 0, and a value. No function has a `requires`: any memory may be lent, and it is either served or
 // refused.

@@ -6,14 +6,14 @@ ghost use Rattle.entries.specs.Reads.{read_call, entry_call};
 ghost use Rattle.staging.specs.Seeing.{len_call, start_call};
 ghost use Rattle.tapes.specs.Numbers.{entering_numbers, numbers, pair, popping_numbers, reading_numbers, single};
 
-use crate::numbers::{Reply, entry_numbers_of, numbers_of};
+use crate::numbers::Reply;
 
 // A tape's length in entries. Codes: 1, 2, 11.
 #[unsafe(no_mangle)]
 pub extern "C" fn tapes_len(disk: &[u8], session: &[u8], transaction: u64, handle: u64) -> Reply
     ensures { result ≡ numbers (len_call disk.now session.now transaction handle) }
 {
-    numbers_of(staging::tape_len(disk, session, transaction, handle))
+    staging::tape_len(disk, session, transaction, handle).into()
 }
 
 // A tape's start in entries. Codes: 1, 2, 11.
@@ -21,7 +21,7 @@ pub extern "C" fn tapes_len(disk: &[u8], session: &[u8], transaction: u64, handl
 pub extern "C" fn tapes_start(disk: &[u8], session: &[u8], transaction: u64, handle: u64) -> Reply
     ensures { result ≡ numbers (start_call disk.now session.now transaction handle) }
 {
-    numbers_of(staging::tape_start(disk, session, transaction, handle))
+    staging::tape_start(disk, session, transaction, handle).into()
 }
 
 // 1 if an append sees a tape of this name, else 0. Codes: 1, 2.
@@ -29,7 +29,7 @@ pub extern "C" fn tapes_start(disk: &[u8], session: &[u8], transaction: u64, han
 pub extern "C" fn tapes_exists(disk: &[u8], session: &[u8], transaction: u64, name: &[u8]) -> Reply
     ensures { result ≡ numbers (exists_call disk.now session.now transaction name.now) }
 {
-    numbers_of(entries::tape_exists(disk, session, transaction, name))
+    entries::tape_exists(disk, session, transaction, name).into()
 }
 
 // Reads so many entries from an index on into a buffer, and gives how many. Codes: 1, 2, 11, 12, 10, 16.
@@ -45,7 +45,7 @@ pub extern "C" fn tapes_read_entries(
 ) -> Reply
     ensures { reading_numbers (read_call disk.now session.now transaction handle index count out.old) ≡ single result out.new }
 {
-    numbers_of(entries::read_entries(disk, session, transaction, handle, index, count, out))
+    entries::read_entries(disk, session, transaction, handle, index, count, out).into()
 }
 
 // Reads one entry into a buffer, and gives its index; 2^64-1 where there is none. Codes: 1, 2, 11, 10, 16.
@@ -60,7 +60,7 @@ pub extern "C" fn tapes_read_entry(
 ) -> Reply
     ensures { entering_numbers (entry_call disk.now session.now transaction handle index out.old) ≡ single result out.new }
 {
-    entry_numbers_of(entries::read_entry(disk, session, transaction, handle, index, out))
+    entries::read_entry(disk, session, transaction, handle, index, out).into()
 }
 
 // Reads the last entry into a buffer and stages that it is cut off, and gives its index; 2^64-1 where there is
@@ -75,5 +75,5 @@ pub extern "C" fn tapes_pop_entry(
 ) -> Reply
     ensures { popping_numbers (pop_call disk.now session.old transaction handle out.old) ≡ pair result session.new out.new }
 {
-    entry_numbers_of(entries::pop_entry(disk, session, transaction, handle, out))
+    entries::pop_entry(disk, session, transaction, handle, out).into()
 }

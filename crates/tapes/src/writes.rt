@@ -6,7 +6,7 @@ ghost use Rattle.staging.specs.Cutting.{cut_call, drop_call};
 ghost use Rattle.staging.specs.Shifting.{shift_call};
 ghost use Rattle.tapes.specs.Numbers.{after_numbers, outcome_numbers, pair, single};
 
-use crate::numbers::{Reply, numbers_of};
+use crate::numbers::Reply;
 
 // Opens a tape in an append, and gives its handle. Codes: 1, 2, 6, 8, 10, 8, 7, 8, 9, 5, 16, 18.
 #[unsafe(no_mangle)]
@@ -22,7 +22,7 @@ pub extern "C" fn tapes_open(
 ) -> Reply
     ensures { outcome_numbers (open_call disk.old session.old transaction name.now entry file_size cache start) ≡ pair result disk.new session.new }
 {
-    numbers_of(opening::open(
+    opening::open(
         disk,
         session,
         transaction,
@@ -31,7 +31,8 @@ pub extern "C" fn tapes_open(
         file_size,
         cache,
         start,
-    ))
+    )
+    .into()
 }
 
 // Appends entries, and gives the index of the first. Codes: 1, 2, 11, 10, 18, 16, 15.
@@ -45,7 +46,7 @@ pub extern "C" fn tapes_append_entries(
 ) -> Reply
     ensures { outcome_numbers (put_call disk.old session.old transaction handle entries.now) ≡ pair result disk.new session.new }
 {
-    numbers_of(appending::append_entries(disk, session, transaction, handle, entries))
+    appending::append_entries(disk, session, transaction, handle, entries).into()
 }
 
 // Moves a start up to an index. Codes: 1, 2, 11, 13.
@@ -59,7 +60,7 @@ pub extern "C" fn tapes_shift_start(
 ) -> Reply
     ensures { after_numbers (shift_call disk.now session.old transaction handle index) ≡ single result session.new }
 {
-    numbers_of(staging::shift_start(disk, session, transaction, handle, index))
+    staging::shift_start(disk, session, transaction, handle, index).into()
 }
 
 // Cuts a tape to so many entries, in a truncate. Codes: 1, 2, 11, 14.
@@ -73,7 +74,7 @@ pub extern "C" fn tapes_truncate_tape(
 ) -> Reply
     ensures { after_numbers (cut_call disk.now session.old transaction handle len) ≡ single result session.new }
 {
-    numbers_of(staging::truncate_tape(disk, session, transaction, handle, len))
+    staging::truncate_tape(disk, session, transaction, handle, len).into()
 }
 
 // Drops so many entries from the end, in a truncate. Codes: 1, 2, 11.
@@ -87,5 +88,5 @@ pub extern "C" fn tapes_drop_entries(
 ) -> Reply
     ensures { after_numbers (drop_call disk.now session.old transaction handle count) ≡ single result session.new }
 {
-    numbers_of(staging::drop_entries(disk, session, transaction, handle, count))
+    staging::drop_entries(disk, session, transaction, handle, count).into()
 }

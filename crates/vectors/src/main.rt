@@ -3,37 +3,34 @@
 // what they must be: the RFC's own two values, and the rest from Python's hashlib.
 #![tactic(auto)]
 
-ghost use Rattle.std.specs.Prelude.{◌≡◌, ◌+◌, ◌*◌, ◌≤◌, length, IfOk};
+ghost use Rattle.std.specs.Prelude.{◌≡◌, ◌+◌, ◌*◌, ◌<◌, ◌≤◌, length};
 
-use blake2b::Hashed;
 use std::io;
+
+// Appendix E's lengths of digests and of messages.
+const DIGESTS: [usize; 4] = [20, 32, 48, 64];
+
+const MESSAGES: [usize; 6] = [0, 3, 128, 129, 255, 1024];
 
 // Appendix E's selftest_seq: a sequence of bytes from a seed, by Fibonacci's rule modulo 2^32. A
 // shorter sequence begins a longer one.
-fn sequence(seed: u64) -> [u8; 1024] {
-    let mut a: u64 = 0xDEAD_4BAD * (seed % 0x1_0000) % 0x1_0000_0000;
-    let mut b: u64 = 1;
+fn sequence(seed: u32) -> [u8; 1024] {
+    let mut a = 0xDEAD_4BADu32.wrapping_mul(seed);
+    let mut b = 1u32;
     let mut out = [0u8; 1024];
-    let mut i = 0;
-    while i < 1024 {
-        let t = (a + b) % 0x1_0000_0000;
+    for byte in &mut out {
+        let t = a.wrapping_add(b);
         a = b;
         b = t;
-        out[i] = (t / 0x100_0000 % 256) as u8;
-        i += 1;
+        *byte = (t >> 24) as u8;
     }
     out
-}
-
-// A byte as a number, with no proof that it fits.
-fn wide(x: u8) -> u64 {
-    x as u64
 }
 
 // A digest in hex and a line's end.
 fn print_digest(rt: &impl Print, digest: &[u8]) -> io::Result<()> {
     for byte in digest {
-        print!(rt; "{:02x}", wide(*byte))?;
+        print!(rt; "{byte:02x}")?;
     }
     println!(rt)
 }
@@ -43,72 +40,55 @@ fn show(rt: &impl Print, digest: &mut [u8], key: &[u8], message: &[u8]) -> io::R
     let nn = digest.len();
     print!(rt; "{nn} {} {} ", key.len(), message.len())?;
     match blake2b::blake2b(digest, nn, key, message) {
-        Hashed::Done => print_digest(rt, digest),
-        _ => println!(rt; "refused"),
+        Ok(()) => print_digest(rt, digest),
+        Err(_) => println!(rt; "refused"),
     }
 }
 
-// The digests of nn bytes of one message of appendix E, unkeyed and keyed, into `all` from at on.
-// Answers the place behind them.
-fn one_message(rt: &impl Print, all: &mut [u8], at: usize, nn: usize, n: usize) -> io::Result<usize>
-    requires room { at + 2 * nn ≤ length all.old }
+// Two digests of nn bytes of one message of appendix E, unkeyed and keyed.
+fn one_message(rt: &impl Print, digests: &mut [u8], nn: usize, n: usize) -> io::Result<()>
+    requires room { nn ≤ length digests.old }
     requires digest { nn ≤ 64 }
     requires message { n ≤ 1024 }
-    ensures { IfOk result (λ next. next ≡ at + 2 * nn) }
 {
-    let input = sequence(n as u64);
-    let key = sequence(nn as u64);
-    let middle = at + nn;
-    let end = middle + nn;
-    show(rt, &mut all[at..middle], b"", &input[..n])?;
-    show(rt, &mut all[middle..end], &key[..nn], &input[..n])?;
-    Ok(end)
+    let input = sequence(n as u32);
+    let key = sequence(nn as u32);
+    let (plain, keyed) = digests.split_at_mut(nn);
+    show(rt, plain, b"", &input[..n])?;
+    show(rt, keyed, &key[..nn], &input[..n])
 }
 
 // The digests of one length, in appendix E's order of messages.
-fn one_length(rt: &impl Print, all: &mut [u8], at: usize, nn: usize) -> io::Result<usize>
-    requires room { at + 12 * nn ≤ length all.old }
-    requires digest { nn ≤ 64 }
-    ensures { IfOk result (λ next. next ≡ at + 12 * nn) }
+fn one_length(rt: &impl Print, digests: &mut [u8], nn: usize) -> io::Result<()>
+    requires digest { (0 < nn) × (nn ≤ 64) }
 {
-    let at = one_message(rt, all, at, nn, 0)?;
-    let at = one_message(rt, all, at, nn, 3)?;
-    let at = one_message(rt, all, at, nn, 128)?;
-    let at = one_message(rt, all, at, nn, 129)?;
-    let at = one_message(rt, all, at, nn, 255)?;
-    one_message(rt, all, at, nn, 1024)
+    for (pair, n) in digests.chunks_exact_mut(2 * nn).zip(MESSAGES) {
+        one_message(rt, pair, nn, n)?;
+    }
+    Ok(())
 }
 
 fn appendix_e(rt: &impl Print) -> io::Result<()> {
     let mut all = [0u8; 1968];
-    let at = one_length(rt, &mut all, 0, 20)?;
-    let at = one_length(rt, &mut all, at, 32)?;
-    let at = one_length(rt, &mut all, at, 48)?;
-    one_length(rt, &mut all, at, 64)?;
+    let mut at = 0;
+    for nn in DIGESTS {
+        let next = at + 12 * nn;
+        one_length(rt, &mut all[at..next], nn)?;
+        at = next;
+    }
     let mut grand = [0u8; 32];
     print!(rt; "the hash of these hashes: ")?;
     show(rt, &mut grand, b"", &all)
 }
 
-// The digest of 32 bytes of n bytes of appendix E's sequence.
-fn of_length(rt: &impl Print, n: usize) -> io::Result<()>
-    requires { n ≤ 1024 }
-{
-    let input = sequence(n as u64);
-    let mut digest = [0u8; 32];
-    show(rt, &mut digest, b"", &input[..n])
-}
-
+// The digests of 32 bytes of the beginnings of one sequence, around the ends of a block.
 fn around_blocks(rt: &impl Print) -> io::Result<()> {
-    of_length(rt, 0)?;
-    of_length(rt, 1)?;
-    of_length(rt, 127)?;
-    of_length(rt, 128)?;
-    of_length(rt, 129)?;
-    of_length(rt, 255)?;
-    of_length(rt, 256)?;
-    of_length(rt, 374)?;
-    of_length(rt, 1024)
+    for n in [0, 1, 127, 128, 129, 255, 256, 374, 1024] {
+        let input = sequence(n as u32);
+        let mut digest = [0u8; 32];
+        show(rt, &mut digest, b"", &input[..n])?;
+    }
+    Ok(())
 }
 
 fn main(rt: HostRuntime) -> io::Result<()> {

@@ -1,25 +1,19 @@
-use Rattle.std.proofs.Common.{◌≡◌, ◌++◌, refl, arith, rules}
+-- `compression::work_vector` is `work_vector`: h and IV are copied side by side, and a count of one word leaves v[13]. Assumes nothing.
+use Rattle.std.proofs.Common.{sym, arith}
 use Rattle.blake2b.specs.Constants.{IV}
-use Rattle.blake2b.specs.Blake2b.{flagged}
-use Rattle.blake2b.proofs.Turns.{filled_none, filled-step, filled-all, work_vector-word}
+use Rattle.blake2b.proofs.Turns.{copied, work_vector-counted, work_vector-last}
 use Rattle.blake2b.proofs.compression.work_vector.Goals as goal
 
-pub loop-i-init : goal.loop-i-init
-loop-i-init c = (search rules, filled_none c.args.h.now _ refl)
-
-pub loop-i-preserved : goal.loop-i-preserved
-unfolding IV
-loop-i-preserved c =
-    (search rules, filled-step c.args.h.now c.loop-i.v c.loop-i.i (omega arith) (omega arith) c.loop-i.invariant.1)
-
 pub returns-then-last : goal.returns-then-last
-unfolding flagged
+unfolding IV
 returns-then-last c =
-    let whole : c.loop-i.v ≡ c.args.h.now ++ IV = filled-all c.args.h.now c.loop-i.v c.loop-i.i (omega arith) (omega arith) c.loop-i.invariant.1 in
-    rw (work_vector-word c.args.h.now c.args.t c.args.last (omega arith) (omega arith), c.if-last.true, c.xor-then-last.ensures, c.xor.ensures, whole)
+    let h = c.args.h.now in
+    let whole = copied h _ _ c.told-h c.copy_from_slice.ensures.after c.copy_from_slice-2.ensures.after in
+    rw (whole, c.if-last.true) (sym (work_vector-last h c.args.t c.told-h (omega arith)))
 
 pub returns-else-last : goal.returns-else-last
-unfolding flagged
+unfolding IV
 returns-else-last c =
-    let whole : c.loop-i.v ≡ c.args.h.now ++ IV = filled-all c.args.h.now c.loop-i.v c.loop-i.i (omega arith) (omega arith) c.loop-i.invariant.1 in
-    rw (work_vector-word c.args.h.now c.args.t c.args.last (omega arith) (omega arith), c.if-last.false, c.xor.ensures, whole)
+    let h = c.args.h.now in
+    let whole = copied h _ _ c.told-h c.copy_from_slice.ensures.after c.copy_from_slice-2.ensures.after in
+    rw (whole, c.if-last.false) (sym (work_vector-counted h c.args.t c.told-h (omega arith)))

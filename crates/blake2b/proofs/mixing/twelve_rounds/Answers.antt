@@ -1,18 +1,13 @@
-use Rattle.std.proofs.Common.{◌≡◌, ℕ, ◌%◌, List, sym, refl, ap, ◌∙◌, arith, rules}
+use Rattle.std.proofs.Common.{ℕ, ◌%◌, List, sym, refl, ap, ◌∙◌}
 use Rattle.blake2b.specs.Blake2b.{round, rounds}
 use Rattle.blake2b.proofs.Turns.{rounds-step}
 use Rattle.blake2b.proofs.mixing.twelve_rounds.Goals as goal
 
 pub loop-i-init : goal.loop-i-init
 unfolding rounds
-loop-i-init c = (search rules, refl)
+loop-i-init c = refl
 
 pub loop-i-preserved : goal.loop-i-preserved
 loop-i-preserved c =
     let m = c.args.m.now in
-    (search rules, c.round.ensures ∙ ap (λ (x : List ℕ). round m (c.loop-i.i % 10) x) c.loop-i.invariant.1 ∙ sym (rounds-step m c.loop-i.i c.args.v.now))
-
-pub returns : goal.returns
-returns c =
-    let e : c.loop-i.i ≡ 12 = omega arith in
-    c.loop-i.invariant.1 ∙ ap (λ (n : ℕ). rounds c.args.m.now n c.args.v.now) e
+    c.round.ensures ∙ ap (λ (x : List ℕ). round m (c.loop-i.i % 10) x) c.loop-i.invariant ∙ sym (rounds-step m c.loop-i.i c.args.v.now)

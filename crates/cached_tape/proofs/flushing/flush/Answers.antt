@@ -47,9 +47,9 @@ pub cover_run-requires : goal.cover_run-requires
 cover_run-requires c =
     let s = c.args.session.now in
     let p = c.args.tape in
-    let size : c.get_handle-handle.result.file_size ≡ file_size_of s p = handle-size s p c.get_handle-handle.result c.get_handle-handle.ensures in
+    let size : c.get_handle-file_size.result.file_size ≡ file_size_of s p = handle-size s p c.get_handle-file_size.result c.get_handle-file_size.ensures in
     let row_fits = c.requires.0.0.1.tapes p c.requires.0.1.1 c.requires.1.0 in
-    let off : c.above-offset.result ≡ unwritten_from c.args.row = c.above-offset.ensures in
+    let off : c.saturating_sub-offset.result ≡ unwritten_from c.args.row = c.saturating_sub-offset.ensures in
     let end = end_fits s p c.args.row c.requires.0.0.1 c.requires.0.1.1 c.requires.1.0 c.requires.1.1 (omega arith) in
     ((c.requires.0.0.0, c.requires.0.0.1.long), (c.requires.0.1.0, (omega (arith, row_fits.file-some), omega arith)))
 
@@ -60,9 +60,9 @@ write_last-requires c =
     let a = areas c.args.disk.now s in
     let t = c.cover_run.new.disk in
     let u = c.cover_run.new.session in
-    let size : c.get_handle-handle.result.file_size ≡ file_size_of s p = handle-size s p c.get_handle-handle.result c.get_handle-handle.ensures in
-    let off : c.above-offset.result ≡ unwritten_from c.args.row = c.above-offset.ensures in
-    let e : cover_run a c.args.place c.get_handle-handle.result.file_size c.above-offset.result c.args.row.unwritten ≡ areas t u = c.cover_run.ensures in
+    let size : c.get_handle-file_size.result.file_size ≡ file_size_of s p = handle-size s p c.get_handle-file_size.result c.get_handle-file_size.ensures in
+    let off : c.saturating_sub-offset.result ≡ unwritten_from c.args.row = c.saturating_sub-offset.ensures in
+    let e : cover_run a c.args.place c.get_handle-file_size.result.file_size c.saturating_sub-offset.result c.args.row.unwritten ≡ areas t u = c.cover_run.ensures in
     let r = ready a c.args.place p c.args.row c.requires.0.0.0 c.requires.0.0.1 c.requires.0.1.0 c.requires.0.1.1 c.requires.1.0 c.requires.1.1
     (omega arith) t u (rw (size, off) at e) in
     let end = end_fits s p c.args.row c.requires.0.0.1 c.requires.0.1.1 c.requires.1.0 c.requires.1.1 (omega arith) in
@@ -75,9 +75,9 @@ returns c =
     let a = areas c.args.disk.now s in
     let t = c.cover_run.new.disk in
     let u = c.cover_run.new.session in
-    let size : c.get_handle-handle.result.file_size ≡ file_size_of s p = handle-size s p c.get_handle-handle.result c.get_handle-handle.ensures in
-    let off : c.above-offset.result ≡ unwritten_from c.args.row = c.above-offset.ensures in
-    let e : cover_run a c.args.place c.get_handle-handle.result.file_size c.above-offset.result c.args.row.unwritten ≡ areas t u = c.cover_run.ensures in
-    let w : c.write_last.new.disk ≡ write_run t c.args.place (file_size_of u p) c.above-offset.result (unwritten_bytes u p c.args.row.unwritten) = c.write_last.ensures in
+    let size : c.get_handle-file_size.result.file_size ≡ file_size_of s p = handle-size s p c.get_handle-file_size.result c.get_handle-file_size.ensures in
+    let off : c.saturating_sub-offset.result ≡ unwritten_from c.args.row = c.saturating_sub-offset.ensures in
+    let e : cover_run a c.args.place c.get_handle-file_size.result.file_size c.saturating_sub-offset.result c.args.row.unwritten ≡ areas t u = c.cover_run.ensures in
+    let w : c.write_last.new.disk ≡ write_run t c.args.place (file_size_of u p) c.saturating_sub-offset.result (unwritten_bytes u p c.args.row.unwritten) = c.write_last.ensures in
     flushed-after a c.args.place p c.args.row t u c.requires.0.0.0.head.few c.requires.0.1.1 (rw (size, off) at e)
     ∙ ap (λ (d : List ℕ). areas d u) (sym (rw off at w))

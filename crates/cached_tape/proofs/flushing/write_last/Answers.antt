@@ -43,21 +43,21 @@ module _ (s : List ℕ) (p n : ℕ) (begun : Begun s) (tape : p < 8) (held : han
 pub last-last-requires : goal.last-last-requires
 last-last-requires c =
     let s = c.args.session.now in
-    let r : c.get_ring-ring.result ≡ ring_of s c.args.tape = c.get_ring-ring.ensures in
+    let r : c.get_ring.result ≡ ring_of s c.args.tape = c.get_ring.ensures in
     let sound = ring-sound s c.requires.0.0.1 c.args.tape c.requires.0.1.1 c.requires.1.0 in
     let held = pending-ring s c.args.tape c.args.count c.requires.1.1.0 in
-    rw r (sound.inside, (sound.short, (held, sound.small)))
+    rw r (record { inside = sound.inside; short = sound.short; small = sound.small; room = omega arith }, held)
 
 pub first_part-first-requires : goal.first_part-first-requires
 first_part-first-requires c =
     let g = got c.args.session.now c.args.tape c.args.count c.requires.0.0.1 c.requires.0.1.1 c.requires.1.0 c.requires.1.1.0
-    c.get_handle-handle.result c.get_ring-ring.result c.last-last.result c.ring_part-bytes.result.now c.get_handle-handle.ensures c.get_ring-ring.ensures c.last-last.ensures c.ring_part-bytes.ensures in
+    c.get_handle-file_size.result c.get_ring.result c.last-last.result c.ring_part-bytes.result.now c.get_handle-file_size.ensures c.get_ring.ensures c.last-last.ensures c.ring_part-bytes.ensures in
     g.sound
 
 pub write_run-requires : goal.write_run-requires
 write_run-requires c =
     let g = got c.args.session.now c.args.tape c.args.count c.requires.0.0.1 c.requires.0.1.1 c.requires.1.0 c.requires.1.1.0
-    c.get_handle-handle.result c.get_ring-ring.result c.last-last.result c.ring_part-bytes.result.now c.get_handle-handle.ensures c.get_ring-ring.ensures c.last-last.ensures c.ring_part-bytes.ensures in
+    c.get_handle-file_size.result c.get_ring.result c.last-last.result c.ring_part-bytes.result.now c.get_handle-file_size.ensures c.get_ring.ensures c.last-last.ensures c.ring_part-bytes.ensures in
     let f : length c.first_part-first.result.now ≡ length (first_part c.last-last.result c.ring_part-bytes.result.now) = ap length c.first_part-first.ensures in
     let short = g.short in
     ((c.requires.0.0.0, c.requires.0.1.0), ((g.some, g.small), omega arith))
@@ -65,7 +65,7 @@ write_run-requires c =
 pub overflow_add-behind : goal.overflow_add-behind
 overflow_add-behind c =
     let g = got c.args.session.now c.args.tape c.args.count c.requires.0.0.1 c.requires.0.1.1 c.requires.1.0 c.requires.1.1.0
-    c.get_handle-handle.result c.get_ring-ring.result c.last-last.result c.ring_part-bytes.result.now c.get_handle-handle.ensures c.get_ring-ring.ensures c.last-last.ensures c.ring_part-bytes.ensures in
+    c.get_handle-file_size.result c.get_ring.result c.last-last.result c.ring_part-bytes.result.now c.get_handle-file_size.ensures c.get_ring.ensures c.last-last.ensures c.ring_part-bytes.ensures in
     let f : length c.first_part-first.result.now ≡ length (first_part c.last-last.result c.ring_part-bytes.result.now) = ap length c.first_part-first.ensures in
     let short = g.short in
     omega arith
@@ -73,14 +73,14 @@ overflow_add-behind c =
 pub second_part-second-requires : goal.second_part-second-requires
 second_part-second-requires c =
     let g = got c.args.session.now c.args.tape c.args.count c.requires.0.0.1 c.requires.0.1.1 c.requires.1.0 c.requires.1.1.0
-    c.get_handle-handle.result c.get_ring-ring.result c.last-last.result c.ring_part-bytes.result.now c.get_handle-handle.ensures c.get_ring-ring.ensures c.last-last.ensures c.ring_part-bytes.ensures in
+    c.get_handle-file_size.result c.get_ring.result c.last-last.result c.ring_part-bytes.result.now c.get_handle-file_size.ensures c.get_ring.ensures c.last-last.ensures c.ring_part-bytes.ensures in
     g.sound
 
 pub write_run-requires-2 : goal.write_run-requires-2
 write_run-requires-2 c =
     let g = got c.args.session.now c.args.tape c.args.count c.requires.0.0.1 c.requires.0.1.1 c.requires.1.0 c.requires.1.1.0
-    c.get_handle-handle.result c.get_ring-ring.result c.last-last.result c.ring_part-bytes.result.now c.get_handle-handle.ensures c.get_ring-ring.ensures c.last-last.ensures c.ring_part-bytes.ensures in
-    let fs = c.get_handle-handle.result.file_size in
+    c.get_handle-file_size.result c.get_ring.result c.last-last.result c.ring_part-bytes.result.now c.get_handle-file_size.ensures c.get_ring.ensures c.last-last.ensures c.ring_part-bytes.ensures in
+    let fs = c.get_handle-file_size.result.file_size in
     let w : c.write_run.new.disk ≡ write_run c.args.disk.now c.args.place fs c.args.offset c.first_part-first.result.now = c.write_run.ensures in
     let sound : Sound c.write_run.new.disk
     = rw w (sound-write_run c.args.disk.now c.args.place fs c.args.offset c.first_part-first.result.now c.requires.0.0.0 g.some g.small) in
@@ -94,8 +94,8 @@ returns c =
     let s = c.args.session.now in
     let p = c.args.tape in
     let g = got s p c.args.count c.requires.0.0.1 c.requires.0.1.1 c.requires.1.0 c.requires.1.1.0
-    c.get_handle-handle.result c.get_ring-ring.result c.last-last.result c.ring_part-bytes.result.now c.get_handle-handle.ensures c.get_ring-ring.ensures c.last-last.ensures c.ring_part-bytes.ensures in
-    let fs = c.get_handle-handle.result.file_size in
+    c.get_handle-file_size.result c.get_ring.result c.last-last.result c.ring_part-bytes.result.now c.get_handle-file_size.ensures c.get_ring.ensures c.last-last.ensures c.ring_part-bytes.ensures in
+    let fs = c.get_handle-file_size.result.file_size in
     let size : fs ≡ file_size_of s p = g.size in
     let bytes = c.ring_part-bytes.result.now in
     let f : c.first_part-first.result.now ≡ first_part c.last-last.result bytes = c.first_part-first.ensures in

@@ -12,7 +12,7 @@ pub push_ring-requires : goal.push_ring-requires
 push_ring-requires c =
     let s = c.args.session.now in
     let begun = c.requires.0 in
-    let ring : c.prepare_write-ring.result ≡ prepared (ring_of s c.args.tape) c.args.len = c.prepare_write-ring.ensures ∙ ap (λ (r : RingBuffer). prepared r c.args.len) c.get_ring-before.ensures in
+    let ring : c.prepare_write-ring.result ≡ prepared (ring_of s c.args.tape) c.args.len = c.prepare_write-ring.ensures ∙ ap (λ (r : RingBuffer). prepared r c.args.len) c.get_ring.ensures in
     let sound : Sound c.prepare_write-ring.result 4096 = rw ring (sound-prepared (ring_of s c.args.tape) 4096 (ring-sound s begun c.args.tape c.requires.1.0 c.requires.1.1) c.args.len) in
     let count = c.min-n.ensures in
     ((begun.long, c.requires.1.0), (sound, simp (length-take, length-drop) (omega arith)))
@@ -20,17 +20,17 @@ push_ring-requires c =
 pub push-requires : goal.push-requires
 push-requires c =
     let s = c.args.session.now in
-    let ring : c.prepare_write-ring.result ≡ prepared (ring_of s c.args.tape) c.args.len = c.prepare_write-ring.ensures ∙ ap (λ (r : RingBuffer). prepared r c.args.len) c.get_ring-before.ensures in
+    let ring : c.prepare_write-ring.result ≡ prepared (ring_of s c.args.tape) c.args.len = c.prepare_write-ring.ensures ∙ ap (λ (r : RingBuffer). prepared r c.args.len) c.get_ring.ensures in
     let sound : Sound c.prepare_write-ring.result 4096 = rw ring (sound-prepared (ring_of s c.args.tape) 4096 (ring-sound s c.requires.0 c.args.tape c.requires.1.0 c.requires.1.1) c.args.len) in
     let count = c.min-n.ensures in
-    (sound.inside, (sound.short, (omega arith, sound.small)))
+    (record { inside = sound.inside; short = sound.short; small = sound.small; room = omega arith }, omega arith)
 
 pub returns : goal.returns
 returns c =
     let s = c.args.session.now in
     let p = c.args.tape in
     let src = c.args.src.now in
-    let ring : c.prepare_write-ring.result ≡ prepared (ring_of s p) c.args.len = c.prepare_write-ring.ensures ∙ ap (λ (r : RingBuffer). prepared r c.args.len) c.get_ring-before.ensures in
+    let ring : c.prepare_write-ring.result ≡ prepared (ring_of s p) c.args.len = c.prepare_write-ring.ensures ∙ ap (λ (r : RingBuffer). prepared r c.args.len) c.get_ring.ensures in
     let n = c.min-n.result in
     let count : n ≡ min (length src) (prepared (ring_of s p) c.args.len).capacity = c.min-n.ensures ∙ ap (λ (r : RingBuffer). min (length src) r.capacity) ring in
     let by = length src - n in

@@ -20,7 +20,7 @@ write_through-requires c =
     let s₁ = c.flush.new.session in
     let e : flushed (areas d s) c.args.place p c.args.row ≡ areas d₁ s₁ = c.flush.ensures in
     let kept : KeptSound (areas d s) (areas d₁ s₁) = rw e at (kept-flushed (areas d s) c.args.place p c.args.row c.requires.0.0.0 c.requires.0.0.1 c.requires.0.1.0 c.requires.0.1.1 c.requires.1.0 c.requires.1.1.0 (omega arith)) in
-    let size : c.get_handle-handle.result.file_size ≡ file_size_of s p = handle-size s₁ p c.get_handle-handle.result c.get_handle-handle.ensures ∙ file_size_of-kept s s₁ kept.only p c.requires.0.1.1 in
+    let size : c.get_handle-file_size.result.file_size ≡ file_size_of s p = handle-size s₁ p c.get_handle-file_size.result c.get_handle-file_size.ensures ∙ file_size_of-kept s s₁ kept.only p c.requires.0.1.1 in
     let fits = c.requires.0.0.1.tapes p c.requires.0.1.1 c.requires.1.0 in
     ((kept.sound, rw kept.only.long c.requires.0.0.1.long), (c.requires.0.1.0, ((omega arith, omega arith), c.requires.1.1.1)))
 
@@ -33,8 +33,8 @@ returns-then-capacity-n c =
     let s₁ = c.flush.new.session in
     let e : flushed (areas d s) c.args.place p c.args.row ≡ areas d₁ s₁ = c.flush.ensures in
     let kept : KeptSound (areas d s) (areas d₁ s₁) = rw e at (kept-flushed (areas d s) c.args.place p c.args.row c.requires.0.0.0 c.requires.0.0.1 c.requires.0.1.0 c.requires.0.1.1 c.requires.1.0 c.requires.1.1.0 (omega arith)) in
-    let size : c.get_handle-handle.result.file_size ≡ file_size_of s p = handle-size s₁ p c.get_handle-handle.result c.get_handle-handle.ensures ∙ file_size_of-kept s s₁ kept.only p c.requires.0.1.1 in
-    let same : c.get_ring-ring.result.capacity ≡ (ring_of s p).capacity = ap (λ (r : RingBuffer). r.capacity) c.get_ring-ring.ensures in
+    let size : c.get_handle-file_size.result.file_size ≡ file_size_of s p = handle-size s₁ p c.get_handle-file_size.result c.get_handle-file_size.ensures ∙ file_size_of-kept s s₁ kept.only p c.requires.0.1.1 in
+    let same : c.get_ring-capacity.result.capacity ≡ (ring_of s p).capacity = ap (λ (r : RingBuffer). r.capacity) c.get_ring-capacity.ensures in
     sent-fills (areas d s) c.args.place p c.args.row c.args.src.now (omega arith)
     ∙ ap (λ (b : Areas). wrote b c.args.place (file_size_of s p) c.args.row.len c.args.src.now) e
     ∙ ap (λ (k : ℕ). wrote (areas d₁ s₁) c.args.place k c.args.row.len c.args.src.now) (sym size)
@@ -45,7 +45,7 @@ returns-then-capacity-n-2 c =
     let d = c.args.disk.now in
     let s = c.args.session.now in
     let p = c.args.tape in
-    let same : c.get_ring-ring.result.capacity ≡ (ring_of s p).capacity = ap (λ (r : RingBuffer). r.capacity) c.get_ring-ring.ensures in
+    let same : c.get_ring-capacity.result.capacity ≡ (ring_of s p).capacity = ap (λ (r : RingBuffer). r.capacity) c.get_ring-capacity.ensures in
     sent-out (areas d s) c.args.place p c.args.row c.args.src.now (omega arith) (omega arith) ∙ c.flush-then-capacity-n-2.ensures
 
 pub returns-else-capacity-n-2 : goal.returns-else-capacity-n-2
@@ -53,5 +53,5 @@ returns-else-capacity-n-2 c =
     let d = c.args.disk.now in
     let s = c.args.session.now in
     let p = c.args.tape in
-    let same : c.get_ring-ring.result.capacity ≡ (ring_of s p).capacity = ap (λ (r : RingBuffer). r.capacity) c.get_ring-ring.ensures in
+    let same : c.get_ring-capacity.result.capacity ≡ (ring_of s p).capacity = ap (λ (r : RingBuffer). r.capacity) c.get_ring-capacity.ensures in
     sent-none (areas d s) c.args.place p c.args.row c.args.src.now (omega arith) (omega arith)

@@ -3,12 +3,12 @@ use Rattle.std.proofs.Common.{sym, arith}
 use Rattle.cached_tape.specs.PutLaws.{after-fills, after-out, after_kept}
 use Rattle.cached_tape.proofs.putting.unwritten_after.Goals as goal
 
-pub returns-then-capacity-n : goal.returns-then-capacity-n
-returns-then-capacity-n c =
-    sym (after-fills c.args.ring c.args.unwritten c.args.n c.if-capacity-n.true)
+pub returns-then-ring-n : goal.returns-then-ring-n
+returns-then-ring-n c =
+    sym (after-fills c.args.ring c.args.unwritten c.args.n c.if-ring-n.true)
 
-pub returns-then-capacity-n-2 : goal.returns-then-capacity-n-2
-returns-then-capacity-n-2 c =
+pub returns-then-ring-n-2 : goal.returns-then-ring-n-2
+returns-then-ring-n-2 c =
     sym (after-out c.args.ring c.args.unwritten c.args.n (omega arith) (omega arith))
 
 pub returns : goal.returns

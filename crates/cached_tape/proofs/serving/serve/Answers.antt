@@ -20,7 +20,7 @@ slice_bounds-read_run-end-2 c =
 pub read_run-requires : goal.read_run-requires
 read_run-requires c =
     let s = c.args.session.now in
-    let size : c.get_handle-handle.result.file_size ≡ file_size_of s c.args.tape = handle-size s c.args.tape c.get_handle-handle.result c.get_handle-handle.ensures in
+    let size : c.get_handle-file_size.result.file_size ≡ file_size_of s c.args.tape = handle-size s c.args.tape c.get_handle-file_size.result c.get_handle-file_size.ensures in
     let fits = c.requires.0.0.1.tapes c.args.tape c.requires.0.1.0 c.requires.0.1.1 in
     let below : c.below_cache-files.result ≡ below_cache (ring_of s c.args.tape) c.args.offset (length c.args.out.now) = c.below_cache-files.ensures in
     let there = serve-lies c.args.disk.now s c.args.tape c.args.offset (length c.args.out.now) c.requires.1.1 in
@@ -44,7 +44,7 @@ returns c =
     let n = length c.args.out.now in
     let k = c.below_cache-files.result in
     let r = ring_of s p in
-    let size : c.get_handle-handle.result.file_size ≡ file_size_of s p = handle-size s p c.get_handle-handle.result c.get_handle-handle.ensures in
+    let size : c.get_handle-file_size.result.file_size ≡ file_size_of s p = handle-size s p c.get_handle-file_size.result c.get_handle-file_size.ensures in
     let below : k ≡ below_cache r o n = c.below_cache-files.ensures in
     let first : List ℕ = c.read_run.new.out in
     let rest : List ℕ = drop k c.args.out.now in
@@ -55,7 +55,7 @@ returns c =
     let whole : length (first ++ rest) ≡ n = length-append first rest ∙ simp length-drop (omega arith) in
     let left : length (take (length (first ++ rest) - k) (drop k (first ++ rest))) ≡ n - k = simp (length-take, length-drop) (omega arith) in
     let cached : second ≡ nths r (ring_bytes s p) (o - r.first) (n - k)
-    = c.fill.ensures ∙ rw (left, c.above-inside.ensures, c.get_ring-ring.ensures, c.ring_part-bytes.ensures) in
+    = c.fill.ensures ∙ rw (left, c.saturating_sub-inside.ensures, c.get_ring-ring.ensures, c.ring_part-bytes.ensures) in
     two-parts first rest second k long
     ∙ ap (λ (l : List ℕ). l ++ second) run
     ∙ ap (λ (l : List ℕ). read_run d (name s names_at p) (file_size_of s p) o k ++ l) cached

@@ -12,5 +12,5 @@ pub record Inv (disk₀ : List ℕ) (place count : ℕ) (disk : List ℕ) (i : �
   pub within : i ≤ count
   pub rest : sweep (empty_slot place) (count - i) i disk ≡ empty_directory disk₀ place
 
-abbrev pub invariant-loop-i : goal.invariant-loop-i
-invariant-loop-i l = Inv l.initial.disk l.place l.count l.disk l.i
+abbrev pub invariant-loop-slot : goal.invariant-loop-slot
+invariant-loop-slot l = Inv l.initial.disk l.place (slots l.initial.disk) l.disk l.slot

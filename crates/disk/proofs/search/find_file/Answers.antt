@@ -13,7 +13,7 @@ loop-place-init c = (omega arith, refl)
 pub loop-slot-init : goal.loop-slot-init
 loop-slot-init c =
     let s = c.args.disk.now in
-    let n : c.u64_at-count.result ≡ slots s = c.u64_at-count.ensures in
+    let n : c.slot_count-count.result ≡ slots s = c.slot_count-count.ensures in
     let here = first-hit (named s c.args.name.now) 8 c.loop-place.place (omega arith) (sym c.has_name.ensures ∙ c.if-has_name.true) in
     let whole : find_in s c.loop-place.place c.args.number ≡ find_file s c.args.name.now c.args.number = ap (within s c.args.number) (sym here) ∙ c.loop-place.invariant.1 in
     (omega arith, rw n c.search_from-slot.ensures.1 ∙ whole)
@@ -21,7 +21,7 @@ loop-slot-init c =
 pub loop-slot-preserved : goal.loop-slot-preserved
 loop-slot-preserved c =
     let miss = sym c.is_file.ensures ∙ c.if-is_file.false in
-    (omega arith, sym (first-miss (is_file c.args.disk.now c.loop-place.place c.args.number) c.u64_at-count.result c.loop-slot.slot c.loop-slot-test.true miss) ∙ c.loop-slot.invariant.1)
+    (omega arith, sym (first-miss (is_file c.args.disk.now c.loop-place.place c.args.number) c.slot_count-count.result c.loop-slot.slot c.loop-slot-test.true miss) ∙ c.loop-slot.invariant.1)
 
 pub loop-place-preserved : goal.loop-place-preserved
 loop-place-preserved c =
@@ -37,8 +37,8 @@ returns-after-loop-place c =
 pub returns-then-is_file : goal.returns-then-is_file
 returns-then-is_file c =
     let hit = sym c.is_file.ensures ∙ c.if-is_file.true in
-    sym (first-hit (is_file c.args.disk.now c.loop-place.place c.args.number) c.u64_at-count.result c.loop-slot.slot c.loop-slot-test.true hit) ∙ c.loop-slot.invariant.1
+    sym (first-hit (is_file c.args.disk.now c.loop-place.place c.args.number) c.slot_count-count.result c.loop-slot.slot c.loop-slot-test.true hit) ∙ c.loop-slot.invariant.1
 
 pub returns-after-loop-slot : goal.returns-after-loop-slot
 returns-after-loop-slot c =
-    sym (first-none (is_file c.args.disk.now c.loop-place.place c.args.number) c.u64_at-count.result c.loop-slot.slot c.loop-slot-test.false) ∙ c.loop-slot.invariant.1
+    sym (first-none (is_file c.args.disk.now c.loop-place.place c.args.number) c.slot_count-count.result c.loop-slot.slot c.loop-slot-test.false) ∙ c.loop-slot.invariant.1

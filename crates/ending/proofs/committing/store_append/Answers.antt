@@ -5,13 +5,11 @@ use Rattle.metadata.specs.declared.list.TapeList.{TapeList}
 use Rattle.metadata.specs.Struct.{storable}
 use Rattle.layout.specs.Disk.{Sound}
 use Rattle.layout.specs.Session.{Begun}
-use Rattle.session.specs.Rows.{head_of, transaction_of}
-use Rattle.session.specs.declared.transactions.Transaction.{Transaction}
+use Rattle.session.specs.Rows.{head_of}
 use Rattle.rolling_tape.specs.Removal.{Areas, areas}
-use Rattle.ending.specs.Oldest.{oldest_of}
-use Rattle.ending.specs.Steps.{flush_all, ripen_all}
+use Rattle.ending.specs.Steps.{flush_all}
 use Rattle.ending.specs.StepLaws.{Whole, whole-kept, kept-flush_all, head-flush_all}
-use Rattle.ending.specs.Committing.{stored, stored_append, ripened_append}
+use Rattle.ending.specs.Committing.{stored}
 use Rattle.ending.specs.CommitLaws.{whole-stored}
 use Rattle.ending.proofs.committing.store_append.Goals as goal
 
@@ -32,11 +30,6 @@ module _ (d s : List ℕ) (sound : Sound d) (begun : Begun s) (bytes : Bytes s) 
     stored-whole : (list : TapeList) → storable list ≡ true → (d₂ s₂ : List ℕ) → stored d₁ s₁ false list ≡ areas d₂ s₂ → Whole (areas d₂ s₂)
     stored-whole list ok d₂ s₂ q = rw q at (whole-stored (areas d₁ s₁) false list ok flushed-whole)
 
-made : (d s : List ℕ) (list : TapeList) (d₁ s₁ d₂ s₂ : List ℕ) (w : Transaction) (o : ℕ) → flush_all (areas d s) ≡ areas d₁ s₁ → stored d₁ s₁ false list ≡ areas d₂ s₂
-    → w ≡ transaction_of s 16 → o ≡ oldest_of s → ripened_append d s list ≡ ripen_all w.epoch o (areas d₂ s₂)
-unfolding ripened_append stored_append
-made d s list d₁ s₁ d₂ s₂ w o flush store began oldest = rw (flush, store, began, oldest)
-
 pub store_list-requires : goal.store_list-requires
 store_list-requires c =
     let bytes : Bytes c.args.session.now = λ i. (c.slice_known-2-1.given i).fits in
@@ -50,9 +43,3 @@ ripen_all-requires c =
     let w = stored-whole c.args.disk.now c.args.session.now c.requires.0.0 c.requires.0.1 bytes c.flush_all.new.disk c.flush_all.new.session c.flush_all.ensures
     c.args.list c.requires.1.0 c.store_list.new.disk c.store_list.new.session c.store_list.ensures in
     (w.sound, w.begun)
-
-pub returns : goal.returns
-returns c =
-    made c.args.disk.now c.args.session.now c.args.list c.flush_all.new.disk c.flush_all.new.session c.store_list.new.disk c.store_list.new.session
-    c.get_transaction-writer.result c.oldest_of-oldest.result c.flush_all.ensures c.store_list.ensures c.get_transaction-writer.ensures c.oldest_of-oldest.ensures
-    ∙ c.ripen_all.ensures

@@ -12,5 +12,5 @@ pub record Inv (disk session₀ session : List ℕ) (i : ℕ) : Type 0 where
   pub within : i ≤ 8
   pub rest : sweep (take_back disk) (8 - i) i session ≡ sweep (take_back disk) 8 0 session₀
 
-abbrev pub invariant-loop-i : goal.invariant-loop-i
-invariant-loop-i l = Inv l.disk l.initial.session l.session l.i
+abbrev pub invariant-loop-tape : goal.invariant-loop-tape
+invariant-loop-tape l = Inv l.disk l.initial.session l.session l.tape

@@ -5,5 +5,5 @@ use Rattle.octets.specs.Sweep.{sweep}
 use Rattle.ending.specs.Listing.{better, next_behind}
 use Rattle.ending.proofs.listing.next_behind.Given as goal
 
-abbrev pub invariant-loop-i : goal.invariant-loop-i
-invariant-loop-i l = (l.i ≤ 8) × (((p : ℕ) → l.best ≡ Some p → p < 8) × (sweep (better l.session l.cut l.before) (8 - l.i) l.i l.best ≡ next_behind l.session l.cut l.before))
+abbrev pub invariant-loop-tape : goal.invariant-loop-tape
+invariant-loop-tape l = (l.tape ≤ 8) × (((p : ℕ) → l.best ≡ Some p → p < 8) × (sweep (better l.session l.cut l.before) (8 - l.tape) l.tape l.best ≡ next_behind l.session l.cut l.before))

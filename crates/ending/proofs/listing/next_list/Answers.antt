@@ -1,9 +1,9 @@
 use Rattle.std.specs.Prelude.{Some}
-use Rattle.std.proofs.Common.{◌≡◌, refl, sym, ap, ◌∙◌, Bool, List, [], ◌∷◌, ◌++◌, append-nil, append_assoc, ℕ, ◌+◌, ◌-◌, ◌≤◌, ◌<◌, arith, set, replicate, length-append}
+use Rattle.std.proofs.Common.{◌≡◌, sym, ap, ◌∙◌, Bool, List, [], ◌∷◌, ◌++◌, append-nil, append_assoc, ℕ, ◌+◌, ◌-◌, ◌≤◌, ◌<◌, arith, set, length-append}
 use Rattle.metadata.specs.declared.list.TapeMetadata.{TapeMetadata}
 use Rattle.metadata.specs.declared.list.TapeList.{TapeList}
 use Rattle.metadata.specs.Tapes.{Tape}
-use Rattle.metadata.specs.Struct.{stored, blank, list_of, meaning}
+use Rattle.metadata.specs.Struct.{stored, list_of, meaning}
 use Rattle.metadata.specs.StructLaws.{meaning-stored, store-next}
 use Rattle.layout.specs.Names.{name}
 use Rattle.layout.specs.Session.{names_at, Begun}
@@ -11,16 +11,6 @@ use Rattle.ending.specs.Listing.{next_behind, tape_in, list_behind, next_list}
 use Rattle.ending.specs.ListingLaws.{name-short, next-behind-low, list-more, list-none, list-end}
 use Rattle.ending.proofs.listing.next_list.Invariants.{Listed}
 use Rattle.ending.proofs.listing.next_list.Goals as goal
-
-begin : (s : List ℕ) (cut : Bool) {array : List TapeMetadata} {before : TapeMetadata} → array ≡ replicate 8 blank → before ≡ blank → Listed s cut array before 0
-begin s cut e f = record {
-  done = [];
-  size = refl;
-  within = omega arith;
-  short = rw f (omega arith);
-  held = e;
-  rest = rw f;
-}
 
 -- the stored tape's own name
 named : (s : List ℕ) (cut : Bool) (p : ℕ) → (meaning (stored (tape_in s cut p))).name ≡ name s names_at p
@@ -58,14 +48,6 @@ module _ {s : List ℕ} {cut : Bool} {array : List TapeMetadata} {before : TapeM
   whole e =
       let all : r.done ≡ next_list s cut = sym (append-nil r.done) ∙ ap (λ (ts : List Tape). r.done ++ ts) (sym e) ∙ r.rest in
       rw (← all, r.held, r.size)
-
-pub loop-i-init : goal.loop-i-init
-loop-i-init c =
-    begin c.args.session.now c.args.cut (rw c.blank-tapes.ensures) c.blank-before.ensures
-
-pub next_after-requires : goal.next_after-requires
-next_after-requires c =
-    (c.requires, c.loop-i.invariant.short)
 
 pub returns-in_default : goal.returns-in_default
 returns-in_default c =

@@ -25,4 +25,4 @@ copy_in-requires c =
 
 pub returns : goal.returns
 returns c =
-    filled c.args.session.now c.args.cut c.args.tape (name-short c.args.session.now c.args.tape c.requires.0 c.requires.1) c.published_view-view.ensures c.tape_name-part.ensures c.copy_in.ensures
+    filled c.args.session.now c.args.cut c.args.tape (name-short c.args.session.now c.args.tape c.requires.0 c.requires.1) c.published_view-len.ensures c.tape_name-part.ensures c.copy_in.ensures

@@ -1,82 +1,64 @@
-use Rattle.std.proofs.Common.{◌≡◌, refl, sym, ap, ◌∙◌, Bool, true, false, List, ℕ, ◌+◌, ◌-◌, ◌<◌, min, arith}
-use Rattle.components.specs.Epochs.{oldest_other}
+use Rattle.std.specs.Prelude.{Option, Some, None, unwrap_or}
+use Rattle.std.proofs.Common.{◌≡◌, refl, sym, ap, rules, ◌∙◌, true, false, List, [], ◌∷◌, ℕ, suc, ◌+◌, ◌-◌, ◌<◌, arith}
+use Rattle.components.specs.Epochs.{least, oldest_other}
 use Rattle.session.specs.Rows.{head_of, transaction_of}
 use Rattle.session.specs.declared.head.Head.{Head}
-use Rattle.session.specs.declared.transactions.Transaction.{Transaction}
 use Rattle.beginning.specs.Transactions.{is_open_at}
 use Rattle.ending.specs.Oldest.{epochs_from, oldest_of}
-use Rattle.ending.specs.OldestLaws.{oldest-first, oldest-more, epochs-open, epochs-closed}
-use Rattle.ending.proofs.oldest.oldest_of.Invariants.{Seen}
+use Rattle.ending.proofs.oldest.oldest_of.Invariants.{older_of, oldest_with}
+use Rattle.session.specs.declared.transactions.Transaction.{Transaction}
 use Rattle.ending.proofs.oldest.oldest_of.Goals as goal
+use Rattle.ending.proofs.oldest.oldest_of.Goals.{then-is_open, else-is_open}
 
-begin : (s : List ℕ) (h : Head) → h ≡ head_of s → Seen s (h.epoch + 1) false 16
-unfolding oldest_other epochs_from
-begin s h e = record { few = omega arith; so_far = rw e; some = refl }
+-- one more epoch in front
+with-one : (own e : ℕ) (oldest : Option ℕ) (es : List ℕ) → oldest_with own (Some (older_of oldest e)) es ≡ oldest_with own oldest (e ∷ es)
+unfolding least oldest_other
+with-one own e None es = refl
+with-one own e (Some d) [] = refl
+with-one own e (Some d) (f ∷ es) = omega arith
 
-module _ {s : List ℕ} {oldest : ℕ} {any : Bool} {left : ℕ} (r : Seen s oldest any left) (more : 0 < left) where
-  closed : is_open_at s (left - 1) ≡ false → Seen s oldest any (left - 1)
-  closed e =
-      let few = r.few in
-      let same = epochs-closed s left more few e in
-      record { few = omega arith; so_far = rw same r.so_far; some = rw same r.some }
+module _ (s : List ℕ) (place : ℕ) (more : place < 16) where
+  epochs-here : is_open_at s place ≡ true → epochs_from s (16 - place) place ≡ (transaction_of s place).epoch ∷ epochs_from s (16 - (place + 1)) (place + 1)
+  unfolding epochs_from
+  epochs-here e =
+      let k : 16 - place ≡ suc (16 - (place + 1)) = omega arith in
+      rw (k, e)
 
-  module _ (e : is_open_at s (left - 1) ≡ true) (t : Transaction) (read : t ≡ transaction_of s (left - 1)) where
-    first : any ≡ false → Seen s t.epoch true (left - 1)
-    first none =
-        let few = r.few in
-        let es = epochs_from s (16 - left) left in
-        let same = epochs-open s left more few e in
-        record {
-          few = omega arith;
-          so_far = rw (same, ← read) (sym (oldest-first (head_of s).epoch t.epoch es (sym r.some ∙ none)));
-          some = rw same;
-        }
+  epochs-not : is_open_at s place ≡ false → epochs_from s (16 - place) place ≡ epochs_from s (16 - (place + 1)) (place + 1)
+  unfolding epochs_from
+  epochs-not e =
+      let k : 16 - place ≡ suc (16 - (place + 1)) = omega arith in
+      rw (k, e)
 
-    further : {n : ℕ} → any ≡ true → n ≡ min t.epoch oldest → Seen s n any (left - 1)
-    further others least =
-        let few = r.few in
-        let es = epochs_from s (16 - left) left in
-        let same = epochs-open s left more few e in
-        record {
-          few = omega arith;
-          so_far = rw (same, ← read, least, r.so_far) (sym (oldest-more (head_of s).epoch t.epoch es (sym r.some ∙ others)));
-          some = rw (same, others);
-        }
+-- none is left
+at-end : (own : ℕ) (oldest : Option ℕ) → unwrap_or oldest (own + 1) ≡ oldest_with own oldest []
+unfolding oldest_other least
+at-end own None = refl
+at-end own (Some d) = refl
 
-pub overflow_add-oldest : goal.overflow_add-oldest
-overflow_add-oldest c =
-    let same : c.get_head-head.result.epoch ≡ (head_of c.args.session.now).epoch = ap (λ (h : Head). h.epoch) c.get_head-head.ensures in
-    omega arith
-
-pub loop-left-init : goal.loop-left-init
-loop-left-init c =
-    begin c.args.session.now _ c.get_head-head.ensures
-
-pub is_open-requires : goal.is_open-requires
-is_open-requires c =
-    let few = c.loop-left.invariant.few in
-    (c.requires.0, omega arith)
-
-pub get_transaction-row-requires : goal.get_transaction-row-requires
-get_transaction-row-requires c =
-    let few = c.loop-left.invariant.few in
-    (c.requires.0, omega arith)
-
-pub loop-left-preserved-then-any : goal.loop-left-preserved-then-any
-loop-left-preserved-then-any c =
-    further c.loop-left.invariant (omega arith) (sym c.is_open.ensures ∙ c.if-is_open.true) _ c.get_transaction-row.ensures c.if-any.true c.min-oldest.ensures
-
-pub loop-left-preserved-else-any : goal.loop-left-preserved-else-any
-loop-left-preserved-else-any c =
-    first c.loop-left.invariant (omega arith) (sym c.is_open.ensures ∙ c.if-is_open.true) _ c.get_transaction-row.ensures c.if-any.false
-
-pub loop-left-preserved : goal.loop-left-preserved
-loop-left-preserved c =
-    closed c.loop-left.invariant (omega arith) (sym c.is_open.ensures ∙ c.if-is_open.false)
+pub loop-place-preserved : goal.loop-place-preserved
+loop-place-preserved c =
+    let s = c.args.session.now in
+    let i = c.loop-place.place in
+    let v = c.loop-place.invariant in
+    elim c.if-is_open.branch [
+      | then-is_open w ↦
+          let here = epochs-here s i c.loop-place-test.true (sym c.is_open.ensures ∙ w.if-is_open.true) in
+          let e : w.get_transaction-epoch.result.epoch ≡ (transaction_of s i).epoch = ap (λ (t : Transaction). t.epoch) w.get_transaction-epoch.ensures in
+          let least : w.map_or.result ≡ older_of c.loop-place.oldest w.get_transaction-epoch.result.epoch = search rules in
+          record {
+            within = omega arith;
+            rest = rw (w.oldest-is, least, e) (with-one (head_of s).epoch (transaction_of s i).epoch c.loop-place.oldest _ ∙ rw here at v.rest);
+          }
+      | else-is_open w ↦
+          let here = epochs-not s i c.loop-place-test.true (sym c.is_open.ensures ∙ w.if-is_open.false) in
+          record { within = omega arith; rest = rw w.oldest-is (rw here at v.rest) }
+    ]
 
 pub returns : goal.returns
-unfolding oldest_of
+unfolding oldest_of epochs_from
 returns c =
-    let none : c.loop-left.left ≡ 0 = omega arith in
     let s = c.args.session.now in
-    c.loop-left.invariant.so_far ∙ ap (λ (n : ℕ). oldest_other (head_of s).epoch (epochs_from s (16 - n) n)) none
+    let none : c.loop-place.place ≡ 16 = omega arith in
+    let own : c.get_head.result.epoch ≡ (head_of s).epoch = ap (λ (h : Head). h.epoch) c.get_head.ensures in
+    c.unwrap_or.ensures ∙ ap (λ (n : ℕ). unwrap_or c.loop-place.oldest (n + 1)) own ∙ at-end (head_of s).epoch c.loop-place.oldest ∙ rw none at c.loop-place.invariant.rest

@@ -1,19 +1,24 @@
--- `oldest_of` is `oldest_of`: what is found so far is the oldest of the places behind, and whether there was one. Assumes nothing.
--- how far the loop is: the oldest of the places from `left` on, and whether there is any
-use Rattle.std.proofs.Common.{◌≡◌, Bool, List, ℕ, ◌-◌, ◌≤◌}
-use Rattle.components.specs.Epochs.{oldest_other}
+-- `oldest_of` is `oldest_of`: the oldest so far, with the epochs of the places that are left, is the oldest of all. Assumes nothing.
+use Rattle.std.specs.Prelude.{Option, Some, None}
+use Rattle.std.proofs.Common.{◌≡◌, List, ℕ, ◌-◌, ◌≤◌, min}
+use Rattle.components.specs.Epochs.{least, oldest_other}
 use Rattle.session.specs.Rows.{head_of}
 use Rattle.ending.specs.Oldest.{epochs_from}
-use Rattle.ending.specs.OldestLaws.{is_some}
 use Rattle.ending.proofs.oldest.oldest_of.Given as goal
 
-pub record Seen (s : List ℕ) (oldest : ℕ) (any : Bool) (left : ℕ) : Type 0 where
-  pub few : left ≤ 16
-  pub so_far : oldest ≡ oldest_other (head_of s).epoch (epochs_from s (16 - left) left)
-  pub some : any ≡ is_some (epochs_from s (16 - left) left)
+-- the older of the oldest so far, if there is one, and another
+abbrev pub older_of : Option ℕ → ℕ → ℕ
+older_of None e = e
+older_of (Some d) e = min d e
 
-abbrev pub invariant-loop-left : goal.invariant-loop-left
-invariant-loop-left l = Seen l.session l.oldest l.any l.left
+-- the oldest of those so far, if there is one, and of more epochs
+abbrev pub oldest_with : ℕ → Option ℕ → List ℕ → ℕ
+oldest_with own None es = oldest_other own es
+oldest_with own (Some d) es = least d es
 
-abbrev pub decreases-loop-left : goal.decreases-loop-left
-decreases-loop-left l = l.left
+pub record Seen (s : List ℕ) (oldest : Option ℕ) (place : ℕ) : Type 0 where
+  pub within : place ≤ 16
+  pub rest : oldest_with (head_of s).epoch oldest (epochs_from s (16 - place) place) ≡ oldest_other (head_of s).epoch (epochs_from s 16 0)
+
+abbrev pub invariant-loop-place : goal.invariant-loop-place
+invariant-loop-place l = Seen l.session l.oldest l.place

@@ -9,5 +9,5 @@ pub record Inv (session₀ session : List ℕ) (i : ℕ) : Type 0 where
   pub within : i ≤ 8
   pub rest : sweep unstage (8 - i) i session ≡ sweep unstage 8 0 session₀
 
-abbrev pub invariant-loop-i : goal.invariant-loop-i
-invariant-loop-i l = Inv l.initial.session l.session l.i
+abbrev pub invariant-loop-tape : goal.invariant-loop-tape
+invariant-loop-tape l = Inv l.initial.session l.session l.tape

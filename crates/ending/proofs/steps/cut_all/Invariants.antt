@@ -13,5 +13,5 @@ pub record Inv (disk session₀ session : List ℕ) (i : ℕ) : Type 0 where
   pub within : i ≤ 8
   pub rest : sweep (cut_tape disk) (8 - i) i session ≡ cut_all disk session₀
 
-abbrev pub invariant-loop-i : goal.invariant-loop-i
-invariant-loop-i l = Inv l.disk l.initial.session l.session l.i
+abbrev pub invariant-loop-tape : goal.invariant-loop-tape
+invariant-loop-tape l = Inv l.disk l.initial.session l.session l.tape

@@ -1,34 +1,26 @@
-use Rattle.std.proofs.Common.{◌≡◌, refl, sym, ◌∙◌, ℕ, arith}
+use Rattle.std.proofs.Common.{◌≡◌, sym, ◌∙◌, ℕ, arith}
 use Rattle.octets.specs.Sweep.{sweep-turn, sweep-end}
 use Rattle.rolling_tape.specs.Removal.{Areas, areas}
 use Rattle.ending.specs.Steps.{flush_tape}
 use Rattle.ending.specs.StepLaws.{Kept, whole-kept, kept-flush_tape}
 use Rattle.ending.proofs.steps.flush_all.Goals as goal
 
-pub loop-i-init : goal.loop-i-init
-loop-i-init c =
-    record { long = refl; wide = refl; whole = record { sound = c.requires.0; begun = c.requires.1; bytes = λ i. (c.slice_known-2-1.given i).fits }; within = omega arith; rest = refl }
-
-pub flush_tape-requires : goal.flush_tape-requires
-flush_tape-requires c =
-    ((c.loop-i.invariant.whole.sound, c.loop-i.invariant.whole.begun), omega arith)
-
-pub loop-i-preserved : goal.loop-i-preserved
-loop-i-preserved c =
-    let v = c.loop-i.invariant in
-    let a = areas c.loop-i.disk c.loop-i.session in
+pub loop-tape-preserved : goal.loop-tape-preserved
+loop-tape-preserved c =
+    let v = c.loop-tape.invariant in
+    let a = areas c.loop-tape.disk c.loop-tape.session in
     let b = areas c.flush_tape.new.disk c.flush_tape.new.session in
     let step : ℕ → Areas → Areas = flush_tape in
-    let e : step c.loop-i.i a ≡ b = c.flush_tape.ensures in
-    let k : Kept a b = rw e at (kept-flush_tape c.loop-i.i a c.loop-i-test.true v.whole) in
+    let e : step c.loop-tape.tape a ≡ b = c.flush_tape.ensures in
+    let k : Kept a b = rw e at (kept-flush_tape c.loop-tape.tape a c.loop-tape-test.true v.whole) in
     record {
       long = c.flush_tape.auto.session ∙ v.long;
       wide = c.flush_tape.auto.disk ∙ v.wide;
       whole = whole-kept a v.whole b k;
       within = omega arith;
-      rest = rw (← e) (sym (sweep-turn step 8 c.loop-i.i a c.loop-i-test.true) ∙ v.rest);
+      rest = rw (← e) (sym (sweep-turn step 8 c.loop-tape.tape a c.loop-tape-test.true) ∙ v.rest);
     }
 
 pub returns : goal.returns
 returns c =
-    sym c.loop-i.invariant.rest ∙ sweep-end flush_tape 8 c.loop-i.i (areas c.loop-i.disk c.loop-i.session) c.loop-i-test.false
+    sym c.loop-tape.invariant.rest ∙ sweep-end flush_tape 8 c.loop-tape.tape (areas c.loop-tape.disk c.loop-tape.session) c.loop-tape-test.false

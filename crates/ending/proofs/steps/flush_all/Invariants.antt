@@ -13,5 +13,5 @@ pub record Inv (disk₀ session₀ disk session : List ℕ) (i : ℕ) : Type 0 w
   pub within : i ≤ 8
   pub rest : sweep flush_tape (8 - i) i (areas disk session) ≡ flush_all (areas disk₀ session₀)
 
-abbrev pub invariant-loop-i : goal.invariant-loop-i
-invariant-loop-i l = Inv l.initial.disk l.initial.session l.disk l.session l.i
+abbrev pub invariant-loop-tape : goal.invariant-loop-tape
+invariant-loop-tape l = Inv l.initial.disk l.initial.session l.disk l.session l.tape

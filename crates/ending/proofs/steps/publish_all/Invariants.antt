@@ -11,5 +11,5 @@ pub record Inv (session₀ : List ℕ) (cut : Bool) (session : List ℕ) (i : �
   pub within : i ≤ 8
   pub rest : sweep (publish_tape cut) (8 - i) i session ≡ publish_all cut session₀
 
-abbrev pub invariant-loop-i : goal.invariant-loop-i
-invariant-loop-i l = Inv l.initial.session l.cut l.session l.i
+abbrev pub invariant-loop-tape : goal.invariant-loop-tape
+invariant-loop-tape l = Inv l.initial.session l.cut l.session l.tape

@@ -13,5 +13,5 @@ pub record Inv (disk₀ session₀ : List ℕ) (began oldest : ℕ) (disk sessio
   pub within : i ≤ 8
   pub rest : sweep (ripen_tape began oldest) (8 - i) i (areas disk session) ≡ ripen_all began oldest (areas disk₀ session₀)
 
-abbrev pub invariant-loop-i : goal.invariant-loop-i
-invariant-loop-i l = Inv l.initial.disk l.initial.session l.began l.oldest l.disk l.session l.i
+abbrev pub invariant-loop-tape : goal.invariant-loop-tape
+invariant-loop-tape l = Inv l.initial.disk l.initial.session l.began l.oldest l.disk l.session l.tape

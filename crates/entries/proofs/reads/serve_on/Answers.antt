@@ -6,83 +6,25 @@ use Rattle.answers.specs.Outcome.{reading}
 use Rattle.layout.specs.Session.{entry_size_of}
 use Rattle.cached_tape.specs.Serving.{served}
 use Rattle.cached_tape.specs.ServeLaws.{length-served}
-use Rattle.entries.specs.Ways.{serve-missing, serve-can}
+use Rattle.entries.specs.Ways.{serve-can}
 use Rattle.session.specs.RowLaws.{handle-entry}
 use Rattle.entries.proofs.reads.serve_on.Goals as goal
 
-pub overflow_mul-offset : goal.overflow_mul-offset
-overflow_mul-offset c =
-    let s = c.args.session.now in
-    let p = c.args.tape in
-    let e = c.get_handle-handle.result.entry in
-    let size : e ≡ entry_size_of s p = handle-entry s p c.get_handle-handle.result c.get_handle-handle.ensures in
-    let fits : c.args.index * e + c.args.count * e < 2 ^ 64 = rw size c.requires.1.0 in
-    omega arith
-
-pub overflow_mul-wanted : goal.overflow_mul-wanted
-overflow_mul-wanted c =
-    let s = c.args.session.now in
-    let p = c.args.tape in
-    let e = c.get_handle-handle.result.entry in
-    let size : e ≡ entry_size_of s p = handle-entry s p c.get_handle-handle.result c.get_handle-handle.ensures in
-    let fits : c.args.index * e + c.args.count * e < 2 ^ 64 = rw size c.requires.1.0 in
-    omega arith
-
-pub can_serve-requires : goal.can_serve-requires
-can_serve-requires c =
-    let s = c.args.session.now in
-    let p = c.args.tape in
-    let e = c.get_handle-handle.result.entry in
-    let size : e ≡ entry_size_of s p = handle-entry s p c.get_handle-handle.result c.get_handle-handle.ensures in
-    let fits : c.args.index * e + c.args.count * e < 2 ^ 64 = rw size c.requires.1.0 in
-    (c.requires.0.0, (c.requires.0.1, omega arith))
-
-pub slice_bounds-serve-end : goal.slice_bounds-serve-end
-slice_bounds-serve-end c =
-    let s = c.args.session.now in
-    let p = c.args.tape in
-    let e = c.get_handle-handle.result.entry in
-    let size : e ≡ entry_size_of s p = handle-entry s p c.get_handle-handle.result c.get_handle-handle.ensures in
-    rw size c.requires.1.1
-
-pub slice_bounds-serve-end-then-can_serve : goal.slice_bounds-serve-end-then-can_serve
-slice_bounds-serve-end-then-can_serve c =
-    let s = c.args.session.now in
-    let p = c.args.tape in
-    let e = c.get_handle-handle.result.entry in
-    let size : e ≡ entry_size_of s p = handle-entry s p c.get_handle-handle.result c.get_handle-handle.ensures in
+pub slice_bounds-serve-end-2 : goal.slice_bounds-serve-end-2
+slice_bounds-serve-end-2 c =
+    let e = c.get_handle-entry.result.entry in
+    let size : e ≡ entry_size_of c.args.session.now c.args.tape = handle-entry c.args.session.now c.args.tape c.get_handle-entry.result c.get_handle-entry.ensures in
     let room : c.args.count * e ≤ length c.args.out.now = rw size c.requires.1.1 in
     sym (length-take-le (c.args.count * e) c.args.out.now room)
 
 pub serve-requires : goal.serve-requires
 serve-requires c =
-    let s = c.args.session.now in
-    let p = c.args.tape in
-    let e = c.get_handle-handle.result.entry in
-    let size : e ≡ entry_size_of s p = handle-entry s p c.get_handle-handle.result c.get_handle-handle.ensures in
+    let e = c.get_handle-entry.result.entry in
+    let size : e ≡ entry_size_of c.args.session.now c.args.tape = handle-entry c.args.session.now c.args.tape c.get_handle-entry.result c.get_handle-entry.ensures in
     let fits : c.args.index * e + c.args.count * e < 2 ^ 64 = rw size c.requires.1.0 in
     let room : c.args.count * e ≤ length c.args.out.now = rw size c.requires.1.1 in
     let long = length-take-le (c.args.count * e) c.args.out.now room in
-    (c.requires.0, (rw long (omega arith), rw long (sym c.can_serve.ensures ∙ c.if-can_serve.true)))
-
-pub returns-then-can_serve : goal.returns-then-can_serve
-returns-then-can_serve c =
-    let d = c.args.disk.now in
-    let s = c.args.session.now in
-    let p = c.args.tape in
-    let i = c.args.index in
-    let n = c.args.count in
-    let out = c.args.out.now in
-    let e = c.get_handle-handle.result.entry in
-    let size : e ≡ entry_size_of s p = handle-entry s p c.get_handle-handle.result c.get_handle-handle.ensures in
-    let room : n * e ≤ length out = rw size c.requires.1.1 in
-    let part : List ℕ = c.serve.new.out in
-    let new : part ≡ served d s p (i * e) (n * e) = c.serve.ensures ∙ rw (length-take-le (n * e) out room) in
-    let long : length part ≡ n * e = ap length new ∙ length-served d s p (i * e) (n * e) in
-    serve-can d s p i n out e size (sym c.can_serve.ensures ∙ c.if-can_serve.true)
-    ∙ ap (λ (l : List ℕ). reading (Ok n) (put out 0 l)) (sym new)
-    ∙ ap (λ (l : List ℕ). reading (Ok n) l) (put_front out part (omega arith))
-    ∙ ap (λ (k : ℕ). reading (Ok n) (part ++ drop k out)) long
+    ((c.requires.0.0, (c.requires.0.1.low, c.requires.0.1.held)), (rw long (omega arith), rw long (sym c.can_serve.ensures ∙ c.if-not-can_serve.false)))
 
 pub returns : goal.returns
 returns c =
@@ -92,6 +34,13 @@ returns c =
     let i = c.args.index in
     let n = c.args.count in
     let out = c.args.out.now in
-    let e = c.get_handle-handle.result.entry in
-    let size : e ≡ entry_size_of s p = handle-entry s p c.get_handle-handle.result c.get_handle-handle.ensures in
-    serve-missing d s p i n out e size (sym c.can_serve.ensures ∙ c.if-can_serve.false)
+    let e = c.get_handle-entry.result.entry in
+    let size : e ≡ entry_size_of s p = handle-entry s p c.get_handle-entry.result c.get_handle-entry.ensures in
+    let room : n * e ≤ length out = rw size c.requires.1.1 in
+    let part : List ℕ = c.serve.new.out in
+    let new : part ≡ served d s p (i * e) (n * e) = c.serve.ensures ∙ rw (length-take-le (n * e) out room) in
+    let long : length part ≡ n * e = ap length new ∙ length-served d s p (i * e) (n * e) in
+    serve-can d s p i n out e size (sym c.can_serve.ensures ∙ c.if-not-can_serve.false)
+    ∙ ap (λ (l : List ℕ). reading (Ok n) (put out 0 l)) (sym new)
+    ∙ ap (λ (l : List ℕ). reading (Ok n) l) (put_front out part (omega arith))
+    ∙ ap (λ (k : ℕ). reading (Ok n) (part ++ drop k out)) long

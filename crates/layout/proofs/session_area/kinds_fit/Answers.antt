@@ -6,12 +6,12 @@ use Rattle.layout.proofs.session_area.kinds_fit.Goals as goal
 pub returns-then-readers_joined-gt1 : goal.returns-then-readers_joined-gt1
 returns-then-readers_joined-gt1 c = sym (kinds-bad c.args.session.now (omega arith))
 
-pub returns-then-kind-eq1 : goal.returns-then-kind-eq1
-returns-then-kind-eq1 c =
-    let s = c.args.session.now in
-    sym (kinds-good s (omega arith) ∙ kind-mixed s 16 (omega arith) (omega arith))
-
-pub returns : goal.returns
-returns c =
+pub returns-then-kind-ne1 : goal.returns-then-kind-ne1
+returns-then-kind-ne1 c =
     let s = c.args.session.now in
     rw c.u64_at-kind.ensures (sym (kinds-good s (omega arith) ∙ kind-writer s 16 (omega arith) (omega arith)))
+
+pub returns-else-kind-ne1 : goal.returns-else-kind-ne1
+returns-else-kind-ne1 c =
+    let s = c.args.session.now in
+    rw c.if-kind-ne1.false (sym (kinds-good s (omega arith) ∙ kind-mixed s 16 (omega arith) (omega arith)))

@@ -1,51 +1,53 @@
-use Rattle.std.proofs.Common.{◌≡◌, refl, sym, ap, ◌∙◌, ℕ, ◌+◌, ◌-◌, ◌*◌, ◌<◌, arith, rules, length, drop, get_or}
-use Rattle.lines.specs.Numbers.{value_from}
-use Rattle.lines.specs.NumberLaws.{digit-in, digit-below, digit-above, digits_step, digits-stop, digits-end, value-step, value-end, value_grows, number-none, number-other, number-large, number_read}
+use Rattle.std.specs.Prelude.{None}
+use Rattle.std.proofs.Common.{◌≡◌, sym, ◌∙◌, List, ℕ, ◌+◌, ◌-◌, ◌*◌, ◌<◌, arith, length, drop, get_or}
+use Rattle.lines.specs.Numbers.{value_from, number_of}
+use Rattle.lines.specs.NumberLaws.{digits_step, digits-stop, digits-end, value-step, value-end, value_grows, number-none, number-other, number-large, number_read}
 use Rattle.lines.proofs.number.parse_number.Goals as goal
 
-pub returns-then-s-lt1 : goal.returns-then-s-lt1
-returns-then-s-lt1 c =
-    sym (number-none c.args.s.now (omega arith))
+-- one digit more would pass 2^64-1, and the digits behind it make the number no smaller
+overflows : (s : List ℕ) (i n : ℕ) → i < length s → value_from n (drop i s) ≡ value_from 0 s → 18446744073709551615 < n * 10 + (get_or s i 0 - 48) → number_of s ≡ None
+overflows s i n more whole large =
+    let grows = value_grows (n * 10 + (get_or s i 0 - 48)) (drop (i + 1) s) in
+    number-large s (omega (arith, grows, value-step s i more n, whole))
 
-pub loop-i-init : goal.loop-i-init
-loop-i-init c = (search rules, (refl, refl))
+pub returns-then-is_empty : goal.returns-then-is_empty
+returns-then-is_empty c =
+    sym (number-none c.args.s.now (grind (arith, c.if-is_empty.ensures)))
 
-pub returns-then-b-lt48 : goal.returns-then-b-lt48
-returns-then-b-lt48 c =
+pub returns-then-not-is_ascii_digit : goal.returns-then-not-is_ascii_digit
+returns-then-not-is_ascii_digit c =
     let s = c.args.s.now in
-    sym (number-other s (sym c.loop-i.invariant.1.0 ∙ digits-stop s c.loop-i.i (omega arith) (digit-below (get_or s c.loop-i.i 0) (omega arith))))
+    let other = digits-stop s c.loop-b.b-index (omega arith) (sym c.is_ascii_digit.ensures.value ∙ c.if-not-is_ascii_digit.true) in
+    sym (number-other s (sym c.loop-b.invariant.1 ∙ other))
 
-pub returns-then-b-gt57 : goal.returns-then-b-gt57
-returns-then-b-gt57 c =
-    let s = c.args.s.now in
-    sym (number-other s (sym c.loop-i.invariant.1.0 ∙ digits-stop s c.loop-i.i (omega arith) (digit-above (get_or s c.loop-i.i 0) (omega arith))))
+pub returns-in_err-checked_mul : goal.returns-in_err-checked_mul
+returns-in_err-checked_mul c =
+    c.from_residual.ensures
+    ∙ sym (overflows c.args.s.now c.loop-b.b-index c.loop-b.n (omega arith) c.loop-b.invariant.2 (omega (arith, c.in_err-checked_mul.ensures)))
 
-pub returns-then-d-n : goal.returns-then-d-n
-returns-then-d-n c =
-    let s = c.args.s.now in
-    let more : c.loop-i.i < length s = omega arith in
-    let b = get_or s c.loop-i.i 0 in
-    let whole : value_from (c.loop-i.n * 10 + (b - 48)) (drop (c.loop-i.i + 1) s) ≡ value_from 0 s = sym (value-step s c.loop-i.i more c.loop-i.n) ∙ c.loop-i.invariant.1.1 in
-    let grows = value_grows (c.loop-i.n * 10 + (b - 48)) (drop (c.loop-i.i + 1) s) in
-    sym (number-large s (omega arith))
+pub returns-in_err-n : goal.returns-in_err-n
+returns-in_err-n c =
+    c.from_residual-in_err-n.ensures
+    ∙ sym
+    (overflows c.args.s.now c.loop-b.b-index c.loop-b.n (omega arith) c.loop-b.invariant.2
+    (omega (arith, c.in_err-n.ensures, c.from.ensures, c.in_ok-checked_mul.ensures)))
 
-pub loop-i-preserved : goal.loop-i-preserved
-loop-i-preserved c =
+pub loop-b-preserved : goal.loop-b-preserved
+loop-b-preserved c =
     let s = c.args.s.now in
-    let more : c.loop-i.i < length s = omega arith in
-    let digit = digit-in (get_or s c.loop-i.i 0) (omega arith) (omega arith) in (
-      omega arith,
-      (
-        sym (digits_step s c.loop-i.i more digit) ∙ c.loop-i.invariant.1.0,
-        ap (λ (d : ℕ). value_from (c.loop-i.n * 10 + d) (drop (c.loop-i.i + 1) s)) c.from-d.ensures ∙ sym (value-step s c.loop-i.i more c.loop-i.n) ∙ c.loop-i.invariant.1.1,
-      ),
+    let i = c.loop-b.b-index in
+    let more : i < length s = omega arith in
+    let next : c.in_ok-n.n ≡ c.loop-b.n * 10 + (get_or s i 0 - 48) = omega (arith, c.in_ok-n.ensures, c.from.ensures, c.in_ok-checked_mul.ensures) in (
+      omega (arith, c.in_ok-n.ensures),
+      sym (digits_step s i more (sym c.is_ascii_digit.ensures.value ∙ c.if-not-is_ascii_digit.false)) ∙ c.loop-b.invariant.1,
+      rw next (sym (value-step s i more c.loop-b.n) ∙ c.loop-b.invariant.2),
     )
 
 pub returns : goal.returns
 returns c =
     let s = c.args.s.now in
     sym
-    (number_read s c.loop-i.n (omega arith)
-    (sym c.loop-i.invariant.1.0 ∙ digits-end s c.loop-i.i (omega arith))
-    (sym c.loop-i.invariant.1.1 ∙ value-end s c.loop-i.i c.loop-i.n (omega arith))
-    (omega arith))
+    (number_read s c.loop-b.n (grind (arith, c.if-is_empty.ensures))
+    (sym c.loop-b.invariant.1 ∙ digits-end s c.loop-b.b-index (omega arith))
+    (sym c.loop-b.invariant.2 ∙ value-end s c.loop-b.b-index c.loop-b.n (omega arith))
+    c.loop-b.invariant.0)

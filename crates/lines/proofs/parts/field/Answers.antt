@@ -1,25 +1,23 @@
-use Rattle.std.proofs.Common.{◌≡◌, refl, sym, ap, ◌∙◌, [], ℕ, arith, drop, get_or}
-use Rattle.lines.specs.Fields.{fields}
-use Rattle.lines.specs.FieldLaws.{field-here, field-later, field-over}
+-- `lines::parts::field` is the part that `split` gives at the place, or no bytes. Assumes nothing.
+use Rattle.std.specs.Prelude.{eqb}
+use Rattle.std.specs.Option.{option_map, unwrap_or}
+use Rattle.std.proofs.Common.{◌≡◌, refl, rules, ap, ◌∙◌, Option, Some, None, Bor, List, [], ℕ}
+use Rattle.std.proofs.lemmas.Iterator.Consumers.{nth_from_yields_List}
+use Rattle.std.proofs.lemmas.Iterator.Splits.{YieldsList-from_slice_split}
+use Rattle.std.proofs.lemmas.Option.{unwrap_or-slice_get}
+use Rattle.lines.proofs.Splits.{fields_split}
 use Rattle.lines.proofs.parts.field.Goals as goal
 
-pub loop-left-init : goal.loop-left-init
-loop-left-init c = (omega arith, refl)
-
-pub returns-then-line-end : goal.returns-then-line-end
-returns-then-line-end c =
-    sym (field-over c.args.line.now c.loop-left.start c.field_end-end.result c.loop-left.invariant.0 c.field_end-end.ensures.0 c.loop-left.left (omega arith) (omega arith)) ∙ c.loop-left.invariant.1
-
-pub loop-left-preserved : goal.loop-left-preserved
-loop-left-preserved c = (
-  omega arith,
-  sym (field-later c.args.line.now c.loop-left.start c.field_end-end.result c.loop-left.invariant.0 c.field_end-end.ensures.0 c.loop-left.left (omega arith) (omega arith)) ∙ c.loop-left.invariant.1,
-)
+now_or : (r : Option (Bor (List ℕ))) (d : Bor (List ℕ)) → (unwrap_or r d).now ≡ unwrap_or (option_map (λ x. x.now) r) d.now
+now_or (Some x) d = refl
+now_or None d = refl
 
 pub returns : goal.returns
 returns c =
     let line = c.args.line.now in
-    let none : c.loop-left.left ≡ 0 = omega arith in
-    sym (field-here line c.loop-left.start c.field_end-end-2.result c.loop-left.invariant.0 c.field_end-end-2.ensures.0)
-    ∙ ap (λ (n : ℕ). get_or (fields (drop c.loop-left.start line)) n []) (sym none)
-    ∙ c.loop-left.invariant.1
+    let found =
+    nth_from_yields_List c.nth.result c.nth.new.self c.args.k c.nth.ensures.ran
+    (YieldsList-from_slice_split _ (λ b. eqb b 9) line c.split.ensures.rest c.split.ensures.done c.split.ensures.closure (λ x b q k. search rules))
+    in
+    rw (c.unwrap_or.ensures, fields_split line)
+    (now_or c.nth.result _ ∙ ap (λ (o : Option (List ℕ)). unwrap_or o []) found ∙ unwrap_or-slice_get _ c.args.k [])

@@ -1,10 +1,11 @@
-use Rattle.std.proofs.Common.{◌≡◌, sym, ap, ◌∙◌, List, ℕ, ◌+◌, arith, rules, length, get_or}
+use Rattle.std.proofs.Common.{◌≡◌, refl, sym, ap, ◌∙◌, List, ℕ, ◌+◌, arith, rules, length, get_or, take}
 use Rattle.octets.specs.Bytes.{put, length-put}
-use Rattle.borsh.specs.declared.Cursor.{Cursor}
-use Rattle.metadata.specs.Tapes.{encode_tape}
-use Rattle.metadata.specs.Struct.{meaning}
+use Rattle.borsh.specs.Encoding.{u32}
+use Rattle.metadata.specs.Tapes.{Tape, encode_list}
+use Rattle.metadata.specs.Rules.{tape}
+use Rattle.metadata.specs.Struct.{meaning, tapes_of}
 use Rattle.metadata.specs.StructLaws.{storable-count}
-use Rattle.metadata.proofs.Turns.{none, firsts, firsts-none, length-all, length_more, length_most, tape-letters, put_first, put-more, put_all}
+use Rattle.metadata.proofs.Turns.{none, short-name, firsts, firsts-none, shown-length, length-all, length_more, length_most, tape-letters, put_first, put-more, put_all}
 use Rattle.metadata.proofs.encode.put_list.Goals as goal
 
 pub overflow_cast-list : goal.overflow_cast-list
@@ -12,67 +13,67 @@ overflow_cast-list c =
     let few = storable-count c.args.list c.requires.0 in
     omega arith
 
-pub put_u32-c-requires : goal.put_u32-c-requires
-put_u32-c-requires c =
+pub u32-requires : goal.u32-requires
+u32-requires c =
     let long : length c.args.list.tapes ≡ 8 = search rules in
     let size = length-all c.args.list c.requires.0 long in
-    omega arith
+    let room = ap length c.new-w.ensures.bytes in
+    omega (arith, c.new-w.ensures.place)
 
-pub loop-i-init : goal.loop-i-init
-loop-i-init c =
-    let place : c.put_u32-c.result.at ≡ 4 = ap (λ (r : Cursor). r.at) c.put_u32-c.ensures.0 in
-    record {
-      within = omega arith;
-      place = place ∙ sym (ap (λ (b : List ℕ). 4 + length b) (firsts-none c.args.list));
-      bytes = put_first c.put_u32-c.new.s c.args.list;
-    }
+pub shared_ref_as_front-t-items : goal.shared_ref_as_front-t-items
+shared_ref_as_front-t-items c = storable-count c.args.list c.requires.0
 
-pub offset_bounds-list-i : goal.offset_bounds-list-i
-offset_bounds-list-i c =
-    let few = storable-count c.args.list c.requires.0 in
-    omega arith
+pub loop-t-init : goal.loop-t-init
+loop-t-init c =
+    let ts = take c.args.list.count c.args.list.tapes in (
+      refl,
+      record {
+        place = c.u32.ensures.place ∙ ap (λ (n : ℕ). n + 4) c.new-w.ensures.place ∙ sym (ap (λ (b : List ℕ). 4 + length b) (firsts-none ts));
+        bytes = put_first c.u32.new.self.out.now ts;
+      },
+    )
 
-pub bounds-list-i : goal.bounds-list-i
-bounds-list-i c =
-    let few = storable-count c.args.list c.requires.0 in
-    omega arith
-
-pub put_tape-c-requires : goal.put_tape-c-requires
-put_tape-c-requires c =
+pub view-requires : goal.view-requires
+view-requires c =
     let long : length c.args.list.tapes ≡ 8 = search rules in
-    let room : length c.put_u32-c.new.s ≡ length c.args.out.now = ap length c.put_u32-c.ensures.1 ∙ length-put _ _ _ in
-    let same : length c.loop-i.out ≡ length c.put_u32-c.new.s = ap length c.loop-i.invariant.bytes ∙ length-put _ _ _ in
-    let more = length_more c.args.list c.requires.0 long c.loop-i.i none (omega arith) in
-    let most = length_most c.args.list c.requires.0 long c.loop-i.i none (omega arith) in
-    let place = c.loop-i.invariant.place in
-    (tape-letters c.args.list c.requires.0 long c.loop-i.i none (omega arith), omega arith)
+    let shown = shown-length c.args.list c.requires.0 long in
+    tape-letters c.args.list c.requires.0 long c.loop-t.t-index none (omega arith)
 
-pub overflow_add-i : goal.overflow_add-i
-overflow_add-i c =
-    let few = storable-count c.args.list c.requires.0 in
-    omega arith
-
-pub loop-i-smaller : goal.loop-i-smaller
-loop-i-smaller c =
-    omega arith
-
-pub loop-i-preserved : goal.loop-i-preserved
-loop-i-preserved c =
+pub put_tape-requires : goal.put_tape-requires
+put_tape-requires c =
     let long : length c.args.list.tapes ≡ 8 = search rules in
-    let few = storable-count c.args.list c.requires.0 in
-    let t = get_or c.args.list.tapes c.loop-i.i none in
-    let more = length_more c.args.list c.requires.0 long c.loop-i.i none (omega arith) in
-    let place = c.loop-i.invariant.place in
-    let next : c.put_tape-c.result.at ≡ c.loop-i.c.at + length (encode_tape (meaning t)) = ap (λ (r : Cursor). r.at) c.put_tape-c.ensures.0 in
-    record {
-      within = omega arith;
-      place = omega arith;
-      bytes = put-more c.args.list c.loop-i.i none c.put_u32-c.new.s c.loop-i.out c.put_tape-c.new.out c.loop-i.c.at (omega arith) place c.loop-i.invariant.bytes c.put_tape-c.ensures.1;
-    }
+    let shown = shown-length c.args.list c.requires.0 long in
+    let room : length c.u32.new.self.out.now ≡ length c.args.out.now = ap length c.u32.ensures.bytes ∙ length-put _ _ _ ∙ ap length c.new-w.ensures.bytes in
+    let same : length c.loop-t.w.out.now ≡ length c.u32.new.self.out.now = ap length c.loop-t.invariant.1.bytes ∙ length-put _ _ _ in
+    let more = length_more c.args.list c.requires.0 long c.loop-t.t-index none (omega arith) in
+    let most = length_most c.args.list c.requires.0 long c.loop-t.t-index none (omega arith) in
+    let place = c.loop-t.invariant.1.place in
+    let t = get_or (take c.args.list.count c.args.list.tapes) c.loop-t.t-index none in
+    let short = short-name t (tape-letters c.args.list c.requires.0 long c.loop-t.t-index none (omega arith)) in
+    let viewed : tape c.view.result.name.now c.view.result.len c.view.result.start ≡ meaning t = c.view.ensures in
+    (omega (arith, ap (λ (u : Tape). length u.name) viewed), rw viewed (omega arith))
+
+pub loop-t-preserved : goal.loop-t-preserved
+loop-t-preserved c =
+    let long : length c.args.list.tapes ≡ 8 = search rules in
+    let shown = shown-length c.args.list c.requires.0 long in
+    let ts = take c.args.list.count c.args.list.tapes in
+    let more = length_more c.args.list c.requires.0 long c.loop-t.t-index none (omega arith) in
+    let place = c.loop-t.invariant.1.place in (
+      c.put_tape.ensures.lent ∙ c.loop-t.invariant.0,
+      record {
+        place = omega (arith, rw c.view.ensures at c.put_tape.ensures.place);
+        bytes = put-more ts c.loop-t.t-index none _ _ _ c.loop-t.w.at (omega arith) place c.loop-t.invariant.1.bytes (rw c.view.ensures at c.put_tape.ensures.bytes);
+      },
+    )
 
 pub returns : goal.returns
 returns c =
     let long : length c.args.list.tapes ≡ 8 = search rules in
-    let few = storable-count c.args.list c.requires.0 in
-    let end : c.loop-i.i ≡ c.args.list.count = omega arith in
-    put_all c.args.list c.args.out.now c.put_u32-c.new.s c.loop-i.out (omega arith) c.put_u32-c.ensures.1 (c.loop-i.invariant.bytes ∙ ap (λ (i : ℕ). put c.put_u32-c.new.s 4 (firsts c.args.list i)) end)
+    let shown = shown-length c.args.list c.requires.0 long in
+    let ts = take c.args.list.count c.args.list.tapes in
+    let end : c.loop-t.t-index ≡ c.args.list.count = omega arith in
+    let start : c.u32.new.self.out.now ≡ put c.args.out.now 0 (u32 c.args.list.count) = rw (← c.new-w.ensures.bytes, ← c.new-w.ensures.place) c.u32.ensures.bytes in
+    let all : c.loop-t.w.out.now ≡ put c.args.out.now 0 (encode_list (tapes_of c.args.list))
+    = put_all c.args.list c.args.out.now c.u32.new.self.out.now c.loop-t.w.out.now c.requires.0 long start (c.loop-t.invariant.1.bytes ∙ ap (λ (i : ℕ). put c.u32.new.self.out.now 4 (firsts ts i)) end) in
+    grind (arith, all)

@@ -1,94 +1,41 @@
 -- `metadata::record::read_record` answers `read_record`: each way out is that of the first part that is not there. Assumes nothing.
--- all parts were found: the hash decides, and what is compared lies inside
-use Rattle.std.proofs.Common.{◌≡◌, sym, ap, ◌∙◌, Bool, true, false, cond, List, ℕ, ◌+◌, ◌-◌, ◌≤◌, arith, length, take, drop}
+use Rattle.std.proofs.Common.{◌≡◌, sym, ap, ◌∙◌, Bool, true, false, cond, List, ℕ, length, take, drop}
+use Rattle.std.specs.Prelude.{Some, None}
 use Rattle.octets.specs.Compare.{same_bytes}
-use Rattle.borsh.specs.declared.Cursor.{Cursor}
-use Rattle.borsh.specs.declared.TakenNumber.TheVariants.{Number, ShortNumber}
-use Rattle.borsh.specs.declared.TakenBytes.TheVariants.{Bytes, ShortBytes}
-use Rattle.borsh.specs.Taking.{take_number, take_array, take_vec}
-use Rattle.borsh.specs.Back.{take-array-was, take-vec-inside}
-use Rattle.metadata.specs.declared.record.Reading.TheVariants.{Whole, Empty}
-use Rattle.metadata.specs.Record.{hash_of, read_record}
-use Rattle.metadata.specs.RecordLaws.{read-no-version, read-no-hash, read-no-epoch, read-no-list, read_all}
+use Rattle.borsh.specs.Taking.{take_number, take_array, take_vec, Took}
+use Rattle.borsh.specs.Back.{take-array-was}
+use Rattle.metadata.specs.Record.{record_of, hash_of, read_record}
+use Rattle.metadata.specs.RecordLaws.{read_all}
 use Rattle.metadata.proofs.record.read_record.Goals as goal
 
-record Parts (s : List ℕ) (hash epoch list n : ℕ) : Type 0 where
-  all : read_record s ≡ cond (same_bytes (take 32 (drop hash s)) (hash_of epoch (take n (drop list s)))) (Whole epoch n) Empty
-  hash-end : hash + 32 ≤ length s
-  list-end : list + n ≤ length s
+-- all parts were found: the hash decides
+whole : (s hash list : List ℕ) {version epoch a b c d : ℕ} → take_number 4 s 0 ≡ Some (version, a) → Took s (take_array 32 s a) hash b
+    → take_number 8 s b ≡ Some (epoch, c) → Took s (take_vec s c) list d → (t : Bool) → same_bytes hash (hash_of epoch list) ≡ t
+    → read_record s ≡ cond t (Some (record_of epoch (length list))) None
+whole s hash list {version} {epoch} {a} {b} {c} {d} p q r o t e =
+    let size : length hash ≡ 32 = (take-array-was 32 s a q.is).size in
+    let named : hash ≡ take 32 (drop q.start s) = q.bytes-are ∙ ap (λ (n : ℕ). take n (drop q.start s)) size in
+    read_all s p q.is r o.is
+    ∙ ap (λ (b : Bool). cond b (Some (record_of epoch (length list))) None) (rw (← named, ← o.bytes-are) e)
 
-parts : (s : List ℕ) {version hash m epoch list n : ℕ} {a b c d : Cursor} → take_number 4 s 0 ≡ Number version a
-    → take_array 32 s a.at ≡ Bytes hash m b → take_number 8 s b.at ≡ Number epoch c → take_vec s c.at ≡ Bytes list n d → Parts s hash epoch list n
-parts s {a = a} {c = c} p q r o =
-    let h = take-array-was 32 s a.at q in
-    record { all = read_all s p q r o; hash-end = omega (arith, h.begins, h.ends, h.fits); list-end = take-vec-inside s c.at o }
-
--- what was compared, as the code has the parts' ends
-compared : (s : List ℕ) (hash epoch list n : ℕ) (r t : Bool) → r ≡ same_bytes (take (hash + 32 - hash) (drop hash s)) (hash_of epoch (take (list + n - list) (drop list s))) → r ≡ t
-    → same_bytes (take 32 (drop hash s)) (hash_of epoch (take n (drop list s))) ≡ t
-compared s hash epoch list n r t e f =
-    let x : hash + 32 - hash ≡ 32 = omega arith in
-    let y : list + n - list ≡ n = omega arith in
-    sym (rw (x, y) at e) ∙ f
-
-pub returns-in_default : goal.returns-in_default
-returns-in_default c =
-    let short : take_number 4 c.args.s.now 0 ≡ ShortNumber = sym c.take_u32.ensures ∙ c.in_default.is in
-    sym (read-no-version c.args.s.now short)
-
-pub returns-in_default-take_array32 : goal.returns-in_default-take_array32
-returns-in_default-take_array32 c =
-    let version-read : take_number 4 c.args.s.now 0 ≡ Number c.in-Number.field-0 c.in-Number.after_version = sym c.take_u32.ensures ∙ c.in-Number.is in
-    let short : take_array 32 c.args.s.now c.in-Number.after_version.at ≡ ShortBytes = sym c.take_array32.ensures ∙ c.in_default-take_array32.is in
-    sym (read-no-hash c.args.s.now version-read short)
-
-pub returns-in_default-take_u64 : goal.returns-in_default-take_u64
-returns-in_default-take_u64 c =
-    let version-read : take_number 4 c.args.s.now 0 ≡ Number c.in-Number.field-0 c.in-Number.after_version = sym c.take_u32.ensures ∙ c.in-Number.is in
-    let hash-read : take_array 32 c.args.s.now c.in-Number.after_version.at ≡ Bytes c.in-Bytes.hash c.in-Bytes.len c.in-Bytes.after_hash = sym c.take_array32.ensures ∙ c.in-Bytes.is in
-    let short : take_number 8 c.args.s.now c.in-Bytes.after_hash.at ≡ ShortNumber = sym c.take_u64.ensures ∙ c.in_default-take_u64.is in
-    sym (read-no-epoch c.args.s.now version-read hash-read short)
-
-pub returns-in_default-take_vec : goal.returns-in_default-take_vec
-returns-in_default-take_vec c =
-    let version-read : take_number 4 c.args.s.now 0 ≡ Number c.in-Number.field-0 c.in-Number.after_version = sym c.take_u32.ensures ∙ c.in-Number.is in
-    let hash-read : take_array 32 c.args.s.now c.in-Number.after_version.at ≡ Bytes c.in-Bytes.hash c.in-Bytes.len c.in-Bytes.after_hash = sym c.take_array32.ensures ∙ c.in-Bytes.is in
-    let epoch-read : take_number 8 c.args.s.now c.in-Bytes.after_hash.at ≡ Number c.in-Number-take_u64.epoch c.in-Number-take_u64.after_epoch = sym c.take_u64.ensures ∙ c.in-Number-take_u64.is in
-    let short : take_vec c.args.s.now c.in-Number-take_u64.after_epoch.at ≡ ShortBytes = sym c.take_vec.ensures ∙ c.in_default-take_vec.is in
-    sym (read-no-list c.args.s.now version-read hash-read epoch-read short)
-
-pub overflow_add-hash : goal.overflow_add-hash
-overflow_add-hash c =
-    let p = parts c.args.s.now (sym c.take_u32.ensures ∙ c.in-Number.is) (sym c.take_array32.ensures ∙ c.in-Bytes.is) (sym c.take_u64.ensures ∙ c.in-Number-take_u64.is)
-    (sym c.take_vec.ensures ∙ c.in-Bytes-take_vec.is) in
-    omega arith
-
-pub slice_bounds-hash_agrees-end : goal.slice_bounds-hash_agrees-end
-slice_bounds-hash_agrees-end c = (parts c.args.s.now (sym c.take_u32.ensures ∙ c.in-Number.is) (sym c.take_array32.ensures ∙ c.in-Bytes.is) (sym c.take_u64.ensures ∙ c.in-Number-take_u64.is)
-    (sym c.take_vec.ensures ∙ c.in-Bytes-take_vec.is)).hash-end
-
-pub overflow_add-list : goal.overflow_add-list
-overflow_add-list c =
-    let p = parts c.args.s.now (sym c.take_u32.ensures ∙ c.in-Number.is) (sym c.take_array32.ensures ∙ c.in-Bytes.is) (sym c.take_u64.ensures ∙ c.in-Number-take_u64.is)
-    (sym c.take_vec.ensures ∙ c.in-Bytes-take_vec.is) in
-    omega arith
-
-pub slice_bounds-hash_agrees-end-2 : goal.slice_bounds-hash_agrees-end-2
-slice_bounds-hash_agrees-end-2 c = (parts c.args.s.now (sym c.take_u32.ensures ∙ c.in-Number.is) (sym c.take_array32.ensures ∙ c.in-Bytes.is) (sym c.take_u64.ensures ∙ c.in-Number-take_u64.is)
-    (sym c.take_vec.ensures ∙ c.in-Bytes-take_vec.is)).list-end
-
-pub returns-then-hash_agrees : goal.returns-then-hash_agrees
-returns-then-hash_agrees c =
-    let p = parts c.args.s.now (sym c.take_u32.ensures ∙ c.in-Number.is) (sym c.take_array32.ensures ∙ c.in-Bytes.is) (sym c.take_u64.ensures ∙ c.in-Number-take_u64.is)
-    (sym c.take_vec.ensures ∙ c.in-Bytes-take_vec.is) in
-    let test : same_bytes (take 32 (drop c.in-Bytes.hash c.args.s.now)) (hash_of c.in-Number-take_u64.epoch (take c.in-Bytes-take_vec.len (drop c.in-Bytes-take_vec.list c.args.s.now))) ≡ true
-    = compared c.args.s.now c.in-Bytes.hash c.in-Number-take_u64.epoch c.in-Bytes-take_vec.list c.in-Bytes-take_vec.len c.hash_agrees.result true c.hash_agrees.ensures c.if-hash_agrees.true in
-    sym (p.all ∙ ap (λ (t : Bool). cond t (Whole c.in-Number-take_u64.epoch c.in-Bytes-take_vec.len) Empty) test)
+pub returns-then-not-agrees : goal.returns-then-not-agrees
+returns-then-not-agrees c =
+    let s = c.args.s.now in
+    let version : take_number 4 s 0 ≡ Some (c.in_ok-_version._version, c.u32.new.self.at) = cc (c.new-r.ensures.source, c.new-r.ensures.place, c.in_ok-_version.ensures.taken) in
+    let source : c.u32.new.self.src.now ≡ s = cc (c.new-r.ensures.source, c.u32.ensures.source) in
+    let hash : Took s (take_array 32 s c.u32.new.self.at) c.in_ok-hash.hash.now c.array32.new.self.at = rw (← source) c.in_ok-hash.ensures.taken in
+    let epoch : take_number 8 s c.array32.new.self.at ≡ Some (c.in_ok-epoch.epoch, c.u64.new.self.at) = cc (source, c.array32.ensures.source, c.in_ok-epoch.ensures.taken) in
+    let source2 : c.u64.new.self.src.now ≡ s = cc (source, c.array32.ensures.source, c.u64.ensures.source) in
+    let list : Took s (take_vec s c.u64.new.self.at) c.in_ok-list.list.now c.vec.new.self.at = rw (← source2) c.in_ok-list.ensures.taken in
+    sym (whole s c.in_ok-hash.hash.now c.in_ok-list.list.now version hash epoch list false (sym c.if-not-agrees.ensures))
 
 pub returns : goal.returns
 returns c =
-    let p = parts c.args.s.now (sym c.take_u32.ensures ∙ c.in-Number.is) (sym c.take_array32.ensures ∙ c.in-Bytes.is) (sym c.take_u64.ensures ∙ c.in-Number-take_u64.is)
-    (sym c.take_vec.ensures ∙ c.in-Bytes-take_vec.is) in
-    let test : same_bytes (take 32 (drop c.in-Bytes.hash c.args.s.now)) (hash_of c.in-Number-take_u64.epoch (take c.in-Bytes-take_vec.len (drop c.in-Bytes-take_vec.list c.args.s.now))) ≡ false
-    = compared c.args.s.now c.in-Bytes.hash c.in-Number-take_u64.epoch c.in-Bytes-take_vec.list c.in-Bytes-take_vec.len c.hash_agrees.result false c.hash_agrees.ensures c.if-hash_agrees.false in
-    sym (p.all ∙ ap (λ (t : Bool). cond t (Whole c.in-Number-take_u64.epoch c.in-Bytes-take_vec.len) Empty) test)
+    let s = c.args.s.now in
+    let version : take_number 4 s 0 ≡ Some (c.in_ok-_version._version, c.u32.new.self.at) = cc (c.new-r.ensures.source, c.new-r.ensures.place, c.in_ok-_version.ensures.taken) in
+    let source : c.u32.new.self.src.now ≡ s = cc (c.new-r.ensures.source, c.u32.ensures.source) in
+    let hash : Took s (take_array 32 s c.u32.new.self.at) c.in_ok-hash.hash.now c.array32.new.self.at = rw (← source) c.in_ok-hash.ensures.taken in
+    let epoch : take_number 8 s c.array32.new.self.at ≡ Some (c.in_ok-epoch.epoch, c.u64.new.self.at) = cc (source, c.array32.ensures.source, c.in_ok-epoch.ensures.taken) in
+    let source2 : c.u64.new.self.src.now ≡ s = cc (source, c.array32.ensures.source, c.u64.ensures.source) in
+    let list : Took s (take_vec s c.u64.new.self.at) c.in_ok-list.list.now c.vec.new.self.at = rw (← source2) c.in_ok-list.ensures.taken in
+    sym (whole s c.in_ok-hash.hash.now c.in_ok-list.list.now version hash epoch list true (sym c.if-not-agrees.ensures))

@@ -17,7 +17,7 @@ pub record Inv (bytes out₀ : List ℕ) (c p : ℕ) (out : List ℕ) (place don
   pub filled : out ≡ put out₀ 0 (nths (from c p) bytes 0 done)
 
 abbrev pub invariant-loop-done : goal.invariant-loop-done
-invariant-loop-done l = Inv l.bytes l.initial.out l.capacity l.initial.place l.out l.place l.done
+invariant-loop-done l = Inv l.bytes l.initial.out l.ring.capacity l.initial.place l.out l.place l.done
 
 abbrev pub decreases-loop-done : goal.decreases-loop-done
 decreases-loop-done l = length l.initial.out - l.done

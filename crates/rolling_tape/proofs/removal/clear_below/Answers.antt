@@ -1,4 +1,4 @@
-use Rattle.std.proofs.Common.{rules, Bool, not, ℕ, ◌-◌, ◌∙◌, ap}
+use Rattle.std.proofs.Common.{rules, not, ℕ, ◌∙◌, ap}
 use native.Mathlib.Nat.{sub-zero}
 use Rattle.octets.specs.First.{all}
 use Rattle.rolling_tape.specs.Removal.{stops, clear_below}

@@ -28,17 +28,18 @@ module _ (d s : List ℕ) (place oldest i : ℕ) (e : Entry) (read : e ≡ entry
     unfolding goes
     ripe f = rw (eq-eqb (owner d i) (place + 1) owned, ← here, f, entry-number d i e read)
 
+pub returns-then-file-place : goal.returns-then-file-place
+returns-then-file-place c =
+    another c.args.disk.now c.args.session.now c.args.place c.args.oldest c.args.slot _ c.get_entry-file.ensures c.if-file-place.true
+
 pub returns-then-is_ripe : goal.returns-then-is_ripe
 returns-then-is_ripe c =
     c.clear_below.ensures
-    ∙ ripe c.args.disk.now c.args.session.now c.args.place c.args.oldest c.args.slot _ c.get_entry-file.ensures c.if-file-place.true _ c.get_tracking.ensures
+    ∙ ripe c.args.disk.now c.args.session.now c.args.place c.args.oldest c.args.slot _ c.get_entry-file.ensures c.if-file-place.false _ c.get_tracking.ensures
     (sym c.is_ripe.ensures ∙ c.if-is_ripe.true)
 
 pub returns-else-is_ripe : goal.returns-else-is_ripe
 returns-else-is_ripe c =
-    unripe c.args.disk.now c.args.session.now c.args.place c.args.oldest c.args.slot _ c.get_entry-file.ensures c.if-file-place.true _ c.get_tracking.ensures
+    c.if-is_ripe.false
+    ∙ unripe c.args.disk.now c.args.session.now c.args.place c.args.oldest c.args.slot _ c.get_entry-file.ensures c.if-file-place.false _ c.get_tracking.ensures
     (sym c.is_ripe.ensures ∙ c.if-is_ripe.false)
-
-pub returns-else-file-place : goal.returns-else-file-place
-returns-else-file-place c =
-    another c.args.disk.now c.args.session.now c.args.place c.args.oldest c.args.slot _ c.get_entry-file.ensures c.if-file-place.false

@@ -13,5 +13,5 @@ pub record Inv (disk₀ session₀ : List ℕ) (place oldest count : ℕ) (disk 
   pub within : i ≤ count
   pub rest : sweep (remove_slot place oldest) (count - i) i (areas disk session) ≡ remove_ripe (areas disk₀ session₀) place oldest
 
-abbrev pub invariant-loop-i : goal.invariant-loop-i
-invariant-loop-i l = Inv l.initial.disk l.initial.session l.place l.oldest l.count l.disk l.session l.i
+abbrev pub invariant-loop-slot : goal.invariant-loop-slot
+invariant-loop-slot l = Inv l.initial.disk l.initial.session l.place l.oldest l.slot-end l.disk l.session l.slot

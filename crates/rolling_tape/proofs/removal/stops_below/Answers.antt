@@ -10,6 +10,7 @@ use Rattle.session.specs.declared.tracking.Tracking.{Tracking}
 use Rattle.rolling_tape.specs.Tracking.{is_tracked, is_ripe}
 use Rattle.rolling_tape.specs.TrackingLaws.{entry-number}
 use Rattle.rolling_tape.specs.Removal.{stops}
+use Rattle.rolling_tape.proofs.removal.stops_below.Goals.{then-file-place-via-then-file-place, then-file-place-via-else-file-place+then-number-file}
 use Rattle.rolling_tape.proofs.removal.stops_below.Goals as goal
 
 module _ (d s : List ℕ) (place oldest n i : ℕ) (e : Entry) (read : e ≡ entry_of d i) where
@@ -34,21 +35,25 @@ module _ (d s : List ℕ) (place oldest n i : ℕ) (e : Entry) (read : e ≡ ent
       unfolding stops
       tracked f = rw (eq-eqb (owner d i) (place + 1) owned, le-leb (number d i) n (rw (entry-number d i e read) at l), ← here, f)
 
+pub returns-then-file-place : goal.returns-then-file-place
+returns-then-file-place c =
+    let d = c.args.disk.now in
+    let s = c.args.session.now in
+    let other = another d s c.args.place c.args.oldest c.args.number c.args.slot _ c.get_entry-file.ensures in
+    let higher = above d s c.args.place c.args.oldest c.args.number c.args.slot _ c.get_entry-file.ensures in
+    elim c.then-file-place.branch [
+      | then-file-place-via-then-file-place w ↦ other w.if-file-place.true
+      | then-file-place-via-else-file-place+then-number-file w ↦ higher w.if-file-place.false w.if-number-file.true
+    ]
+
 pub returns-then-is_tracked : goal.returns-then-is_tracked
 returns-then-is_tracked c =
     ap not c.is_ripe.ensures
-    ∙ tracked c.args.disk.now c.args.session.now c.args.place c.args.oldest c.args.number c.args.slot _ c.get_entry-file.ensures c.if-file-place.true c.if-file-number.true _
+    ∙ tracked c.args.disk.now c.args.session.now c.args.place c.args.oldest c.args.number c.args.slot _ c.get_entry-file.ensures c.if-file-place.false c.if-number-file.false _
     c.get_tracking-now.ensures (sym c.is_tracked.ensures ∙ c.if-is_tracked.true)
 
 pub returns-else-is_tracked : goal.returns-else-is_tracked
 returns-else-is_tracked c =
-    untracked c.args.disk.now c.args.session.now c.args.place c.args.oldest c.args.number c.args.slot _ c.get_entry-file.ensures c.if-file-place.true c.if-file-number.true _
+    c.if-is_tracked.false
+    ∙ untracked c.args.disk.now c.args.session.now c.args.place c.args.oldest c.args.number c.args.slot _ c.get_entry-file.ensures c.if-file-place.false c.if-number-file.false _
     c.get_tracking-now.ensures (sym c.is_tracked.ensures ∙ c.if-is_tracked.false)
-
-pub returns-else-file-number : goal.returns-else-file-number
-returns-else-file-number c =
-    above c.args.disk.now c.args.session.now c.args.place c.args.oldest c.args.number c.args.slot _ c.get_entry-file.ensures c.if-file-place.true c.if-file-number.false
-
-pub returns-else-file-place : goal.returns-else-file-place
-returns-else-file-place c =
-    another c.args.disk.now c.args.session.now c.args.place c.args.oldest c.args.number c.args.slot _ c.get_entry-file.ensures c.if-file-place.false

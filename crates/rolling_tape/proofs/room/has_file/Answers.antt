@@ -1,12 +1,13 @@
 -- `has_file` answers `on_disk`: whether the search finds something. Assumes nothing.
-use Rattle.std.proofs.Common.{sym, ◌∙◌}
-use Rattle.rolling_tape.specs.RoomWays.{on-disk, not-on-disk}
+use Rattle.std.specs.Prelude.{◌≡◌, ℕ, Option, Some, None, is_some, refl}
+use Rattle.std.proofs.Common.{ap, ◌∙◌}
+use Rattle.rolling_tape.specs.Room.{is_found, on_disk}
 use Rattle.rolling_tape.proofs.room.has_file.Goals as goal
 
-pub returns-in-Some : goal.returns-in-Some
-returns-in-Some c =
-    sym (on-disk c.args.disk.now c.args.place c.args.number c.in-Some.field-0 (sym c.find_in-found.ensures ∙ c.in-Some.is))
+found : (f : Option ℕ) → is_some f ≡ is_found f
+found (Some i) = refl
+found None = refl
 
-pub returns-in-None : goal.returns-in-None
-returns-in-None c =
-    sym (not-on-disk c.args.disk.now c.args.place c.args.number (sym c.find_in-found.ensures ∙ c.in-None.is))
+pub returns : goal.returns
+unfolding on_disk
+returns c = c.is_some.ensures ∙ found c.find_in.result ∙ ap is_found c.find_in.ensures

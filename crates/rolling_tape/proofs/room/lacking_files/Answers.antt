@@ -1,4 +1,4 @@
-use Rattle.std.proofs.Common.{sym, ap, ◌∙◌, ℕ, ◌+◌, add-zero, zero-add, arith}
+use Rattle.std.proofs.Common.{sym, ◌∙◌, add-zero, zero-add, arith}
 use native.Mathlib.Nat.{sub-zero}
 use Rattle.rolling_tape.specs.Room.{on_disk}
 use Rattle.rolling_tape.specs.RoomWays.{lacking-hit, lacking-miss, lacking-end}

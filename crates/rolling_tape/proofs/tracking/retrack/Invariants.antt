@@ -10,5 +10,5 @@ pub record Inv (disk session₀ : List ℕ) (place : ℕ) (change : Change) (cou
   pub within : i ≤ count
   pub rest : sweep (retrack_slot disk place change) (count - i) i session ≡ retracked disk session₀ place change
 
-abbrev pub invariant-loop-i : goal.invariant-loop-i
-invariant-loop-i l = Inv l.disk l.initial.session l.place l.change l.count l.session l.i
+abbrev pub invariant-loop-slot : goal.invariant-loop-slot
+invariant-loop-slot l = Inv l.disk l.initial.session l.place l.change l.slot-end l.session l.slot

@@ -21,10 +21,10 @@ module _ (d s : List ℕ) (place i : ℕ) (c : Change) (e : Entry) (read : e ≡
 
 pub returns-then-file-place : goal.returns-then-file-place
 returns-then-file-place c =
-    c.put_tracking.ensures
-    ∙ slot-changes c.args.disk.now c.args.session.now c.args.place c.args.slot c.args.change _ c.get_entry-file.ensures _ _ c.if-file-place.true c.get_tracking-now.ensures
-    c.change_one-then.ensures
+    slot-stays c.args.disk.now c.args.session.now c.args.place c.args.slot c.args.change _ c.get_entry-file.ensures c.if-file-place.true
 
-pub returns-else-file-place : goal.returns-else-file-place
-returns-else-file-place c =
-    slot-stays c.args.disk.now c.args.session.now c.args.place c.args.slot c.args.change _ c.get_entry-file.ensures c.if-file-place.false
+pub returns : goal.returns
+returns c =
+    c.put_tracking.ensures
+    ∙ slot-changes c.args.disk.now c.args.session.now c.args.place c.args.slot c.args.change _ c.get_entry-file.ensures _ _ c.if-file-place.false c.get_tracking-now.ensures
+    c.change_one.ensures

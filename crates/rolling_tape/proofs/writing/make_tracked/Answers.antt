@@ -11,22 +11,22 @@ use Rattle.rolling_tape.proofs.writing.make_tracked.Goals as goal
 
 pub returns-in_default : goal.returns-in_default
 returns-in_default c =
-    let t = c.make_file-made.new.disk in
-    let e : make_file c.args.disk.now c.args.place c.args.number ≡ after None t = c.make_file-made.ensures ∙ ap (λ (r : Option ℕ). after r t) c.in_default.is in
+    let t = c.make_file.new.disk in
+    let e : make_file c.args.disk.now c.args.place c.args.number ≡ after None t = c.make_file.ensures ∙ ap (λ (r : Option ℕ). after r t) c.in_default.is in
     tracked-full c.args.disk.now c.args.session.now c.args.place c.args.number t e
 
 pub track_file-requires : goal.track_file-requires
 track_file-requires c =
-    let t = c.make_file-made.new.disk in
-    let e : make_file c.args.disk.now c.args.place c.args.number ≡ after (Some c.in-Some.slot) t = c.make_file-made.ensures ∙ ap (λ (r : Option ℕ). after r t) c.in-Some.is in
+    let t = c.make_file.new.disk in
+    let e : make_file c.args.disk.now c.args.place c.args.number ≡ after (Some c.in-Some.slot) t = c.make_file.ensures ∙ ap (λ (r : Option ℕ). after r t) c.in-Some.is in
     let sound : Sound t = sound-made c.args.disk.now c.args.place c.args.number (Some c.in-Some.slot) t e c.requires.0.0 c.requires.1 (omega arith) in
     let low : c.in-Some.slot < slots t = slot-made c.args.disk.now c.args.place c.args.number c.in-Some.slot t e in
     ((sound, c.requires.0.1), (c.requires.1, low))
 
 pub returns : goal.returns
 returns c =
-    let t = c.make_file-made.new.disk in
-    let e : make_file c.args.disk.now c.args.place c.args.number ≡ after (Some c.in-Some.slot) t = c.make_file-made.ensures ∙ ap (λ (r : Option ℕ). after r t) c.in-Some.is in
+    let t = c.make_file.new.disk in
+    let e : make_file c.args.disk.now c.args.place c.args.number ≡ after (Some c.in-Some.slot) t = c.make_file.ensures ∙ ap (λ (r : Option ℕ). after r t) c.in-Some.is in
     let there : c.has_file-there.result ≡ on_disk c.args.disk.now c.args.place c.args.number = c.has_file-there.ensures in
     let kept : c.track_file.new.session ≡ track_file t c.args.session.now c.args.place c.args.number (on_disk c.args.disk.now c.args.place c.args.number) c.in-Some.slot
     = c.track_file.ensures ∙ ap (λ (b : Bool). track_file t c.args.session.now c.args.place c.args.number b c.in-Some.slot) there in

@@ -1,18 +1,8 @@
 -- `list_tape` puts a tape's name and its row of the list: a name's letters never go past its array. Assumes nothing.
-use Rattle.std.proofs.Common.{◌≡◌, sym, ap, ◌∙◌, ℕ, arith, rules, length, take, length-take, length-take-le}
+use Rattle.std.proofs.Common.{◌≡◌, ap, ◌∙◌, ℕ, arith, rules, length, take, length-take}
 use Rattle.session.specs.Begin.{listed}
 use Rattle.session.specs.Ways.{take_min}
 use Rattle.session.proofs.starting.list_tape.Goals as goal
-
-pub slice_bounds-name-end : goal.slice_bounds-name-end
-slice_bounds-name-end c =
-    let long : length c.args.tape.name ≡ 24 = search rules in
-    omega arith
-
-pub slice_bounds-put_tape_name-end : goal.slice_bounds-put_tape_name-end
-slice_bounds-put_tape_name-end c =
-    let long : length c.args.tape.name ≡ 24 = search rules in
-    sym (length-take-le c.min-letters.result c.args.tape.name (omega arith))
 
 pub put_tape_name-requires : goal.put_tape_name-requires
 put_tape_name-requires c =

@@ -5,4 +5,4 @@ use Rattle.session.proofs.tape_rows.get_handle.Goals as goal
 pub returns : goal.returns
 unfolding handle_of
 returns c =
-    rw (c.u64_at-file_size.ensures, c.u64_at-entry.ensures, c.u64_at-number.ensures)
+    rw (c.u64_at.ensures, c.u64_at-2.ensures, c.u64_at-3.ensures)

@@ -6,4 +6,4 @@ use Rattle.session.proofs.tape_rows.get_ring.Goals as goal
 pub returns : goal.returns
 unfolding ring_of
 returns c =
-    rw (c.u64_at-first.ensures, c.u64_at-len.ensures, c.u64_at-start.ensures, c.u64_at-capacity.ensures) (simp add_assoc)
+    rw (c.u64_at.ensures, c.u64_at-2.ensures, c.u64_at-3.ensures, c.u64_at-4.ensures) (simp add_assoc)

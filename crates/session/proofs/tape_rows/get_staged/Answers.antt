@@ -6,4 +6,4 @@ use Rattle.session.proofs.tape_rows.get_staged.Goals as goal
 pub returns : goal.returns
 unfolding staged_of
 returns c =
-    rw (c.is_set-touched.ensures, c.u64_at-unwritten.ensures, c.u64_at-start.ensures, c.u64_at-len.ensures, c.u64_at-base.ensures, c.u64_at.ensures) (simp add_assoc)
+    rw (c.u64_at.ensures, c.u64_at-2.ensures, c.u64_at-3.ensures, c.u64_at-4.ensures, c.u64_at-5.ensures) (simp add_assoc)

@@ -5,4 +5,4 @@ use Rattle.session.proofs.tracking.get_tracking.Goals as goal
 pub returns : goal.returns
 unfolding tracking_of
 returns c =
-    rw (c.tracking_for.ensures, c.u64_at-epoch.ensures, c.u64_at-word.ensures)
+    rw (c.from_words.ensures, c.u64_at-2.ensures, c.u64_at.ensures)

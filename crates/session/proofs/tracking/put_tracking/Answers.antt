@@ -7,4 +7,4 @@ use Rattle.session.proofs.tracking.put_tracking.Goals as goal
 pub returns : goal.returns
 unfolding put_tracking
 returns c =
-    c.put_u64-2.ensures ∙ rw (c.put_u64.ensures, c.tracking_code.ensures, c.tracking_epoch.ensures) (sym (put_words-2 _ _ _ _))
+    c.put_u64-2.ensures ∙ rw (c.put_u64.ensures, c.words-word.ensures.0, c.words-word.ensures.1) (sym (put_words-2 _ _ _ _))

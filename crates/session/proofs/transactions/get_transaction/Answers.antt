@@ -5,4 +5,4 @@ use Rattle.session.proofs.transactions.get_transaction.Goals as goal
 pub returns : goal.returns
 unfolding transaction_of
 returns c =
-    rw (c.kind_for-kind.ensures, c.u64_at-epoch.ensures, c.u64_at-number.ensures, c.u64_at.ensures)
+    rw (c.from.ensures, c.u64_at.ensures, c.u64_at-2.ensures, c.u64_at-3.ensures)

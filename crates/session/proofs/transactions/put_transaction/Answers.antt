@@ -7,4 +7,4 @@ use Rattle.session.proofs.transactions.put_transaction.Goals as goal
 pub returns : goal.returns
 unfolding put_transaction
 returns c =
-    c.put_u64-3.ensures ∙ rw (c.put_u64-2.ensures, c.put_u64.ensures, c.kind_code.ensures) (sym (put_words-3 _ _ _ _ _))
+    c.put_u64-3.ensures ∙ rw (c.put_u64-2.ensures, c.put_u64.ensures, c.from.ensures) (sym (put_words-3 _ _ _ _ _))

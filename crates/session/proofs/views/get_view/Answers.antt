@@ -5,4 +5,4 @@ use Rattle.session.proofs.views.get_view.Goals as goal
 pub returns : goal.returns
 unfolding view_of
 returns c =
-    rw (c.is_set-listed.ensures, c.u64_at-start.ensures, c.u64_at-len.ensures, c.u64_at.ensures)
+    rw (c.u64_at.ensures, c.u64_at-2.ensures, c.u64_at-3.ensures)

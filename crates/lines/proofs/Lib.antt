@@ -1,0 +1,3 @@
+pub mod Spelled
+pub mod Splits
+pub mod Lengths
