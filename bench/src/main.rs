@@ -2,11 +2,13 @@
 //! files are made in that directory (a memory file system, to leave the disk out). `bench DIRECTORY --count` makes each call once, between
 //! two marks, in the same order.
 
+#[cfg(feature = "inside")]
 mod inside;
 mod meter;
 mod ours;
 mod rows;
 mod theirs;
+#[cfg(feature = "inside")]
 mod words;
 
 use std::{

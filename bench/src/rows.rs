@@ -2,11 +2,14 @@
 
 use std::hint::black_box;
 
+#[cfg(feature = "inside")]
 use blake2::Digest;
 use cuprate_tapes::{Tapes, TapesRead};
 use tapes::calls;
 
-use crate::{Bench, Row, Shape, inside, meter::Meter, ours, theirs, words};
+use crate::{Bench, Row, Shape, ours, theirs};
+#[cfg(feature = "inside")]
+use crate::{inside, meter::Meter, words};
 
 const RUST: &str = "rust";
 const HUNDRED: [u8; 100] = [7; 100];
@@ -32,8 +35,12 @@ pub fn all(bench: &Bench) {
     bench.reader("reader", &shape(64, 4096, 4096, 60), 0, 0);
     bench.length("length", &shape(64, 4096, 4096, 60), 0);
     bench.stores();
-    bench.rules("rule", 64);
-    bench.hashes();
+    // today's toolchain passes slices to inner functions otherwise than `inside` says
+    #[cfg(feature = "inside")]
+    {
+        bench.rules("rule", 64);
+        bench.hashes();
+    }
     growth(bench);
 }
 
@@ -53,6 +60,7 @@ fn growth(bench: &Bench) {
         bench.append("slots", "append 100 bytes and commit", &large, 0, slots);
         bench.reader("slots", &large, 0, slots);
         bench.length("slots", &large, slots);
+        #[cfg(feature = "inside")]
         bench.rules("slots", slots);
     }
     for files in [1, 2, 4, 8, 16, 32, 63] {
@@ -198,6 +206,7 @@ impl Bench {
     }
 
     /// The layout rules alone, which the Rust does not have.
+    #[cfg(feature = "inside")]
     fn rules(&self, group: &str, slots: u64) {
         let shape = shape(slots, 4096, 4096, slots - 4);
         let row = |what| Row { group, what, file: shape.file, cache: shape.cache, at: slots };
@@ -215,6 +224,7 @@ impl Bench {
     }
 
     /// BLAKE2b of a record of 8 tapes and of 1 MiB, beside the stand-in that the Rust is built with.
+    #[cfg(feature = "inside")]
     fn hashes(&self) {
         for (what, message, calls) in [("BLAKE2b of a record", 374, 200), ("BLAKE2b of 1 MiB", 1 << 20, 1)] {
             let list = vec![5; message - 18];

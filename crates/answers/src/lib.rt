@@ -48,6 +48,7 @@ pub enum Refusal {
     TooLarge,
 }
 
+// The numbers stay numbers here and below: C and the driver say them (document 01, "Refusal numbers").
 fn refusal_number(why: Refusal) -> u64
     ensures { result ≡ refusal_number why }
 {
@@ -103,7 +104,8 @@ pub fn value(answer: Result<u64, Refusal>) -> u64
     }
 }
 
-// The same of a call for one entry: 0 where there is an entry, and where there is none.
+// The same of a call for one entry: 0 where there is an entry, and where there is none. Beside `code` and
+// not one generic with it: `code_of` and `entry_code_of` are two definitions, and the values differ.
 pub fn entry_code(answer: Result<Option<u64>, Refusal>) -> u64
     ensures { result ≡ entry_code_of answer }
 {
@@ -119,7 +121,7 @@ pub fn entry_value(answer: Result<Option<u64>, Refusal>) -> u64
 {
     match answer {
         Ok(Some(index)) => index,
-        Ok(None) => 0xffff_ffff_ffff_ffff,
+        Ok(None) => u64::MAX,
         Err(why) => refusal_value(why),
     }
 }

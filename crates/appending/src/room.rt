@@ -12,8 +12,7 @@ use session::Staged;
 fn low_of(row: Staged) -> u64
     ensures { result ≡ low_of row }
 {
-    let unwritten_from = components::above(row.len, row.unwritten as u64);
-    row.base.min(unwritten_from)
+    row.base.min(row.len.saturating_sub(row.unwritten as u64))
 }
 
 // Where they end, with some more behind them.

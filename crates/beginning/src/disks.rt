@@ -10,7 +10,7 @@ use areas::FormatError;
 pub fn format(disk: &mut [u8], session: &mut [u8], slots: u64) -> Result<u64, Refusal>
     ensures { format_call disk.old session.old slots ≡ outcome result disk.new session.new }
 {
-    // No From: neither type is this crate's.
+    // No `From`: neither type is this crate's, and a type of its own between them would be no plainer.
     match areas::format(disk, session, slots) {
         Ok(()) => Ok(0),
         Err(FormatError::BadSlotCount) => Err(Refusal::BadSize),

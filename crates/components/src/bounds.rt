@@ -1,13 +1,6 @@
 // Bounds in entries. The products are never formed before they are known to fit.
-ghost use Rattle.std.specs.Prelude.{◌≡◌, ◌-◌, ◌<◌};
+ghost use Rattle.std.specs.Prelude.{◌≡◌, ◌<◌};
 ghost use Rattle.components.specs.Bounds.{up_to, in_bounds};
-
-// How far a lies above b; 0 where it does not.
-pub fn above(a: u64, b: u64) -> u64
-    ensures { result ≡ a - b }
-{
-    a.saturating_sub(b)
-}
 
 // Whether an index in entries is not past a length in bytes.
 pub fn up_to(entry: u64, index: u64, len: u64) -> bool

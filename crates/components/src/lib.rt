@@ -9,6 +9,6 @@ mod bounds;
 mod pieces;
 mod slots;
 
-pub use bounds::{above, in_bounds, up_to};
+pub use bounds::{in_bounds, up_to};
 pub use pieces::{Part, Parts, file_of, left_in, place_in};
 pub use slots::files_covered;

@@ -3,7 +3,7 @@
 // are compared with what they were.
 #![tactic(auto)]
 
-ghost use Rattle.std.specs.Prelude.{◌+◌, ◌≤◌};
+ghost use Rattle.std.specs.Prelude.{◌+◌, ◌≤◌, length};
 
 use areas::FormatError;
 use layout::{Disk, Session};
@@ -16,25 +16,39 @@ fn say(rt: &impl Print, words: &[u8]) -> io::Result<()> {
     rt.write_all(words)
 }
 
-fn verdict(rt: &impl Print, label: &[u8], good: bool) -> io::Result<()> {
+// One of two words, by whether something holds.
+fn either(rt: &impl Print, label: &[u8], holds: bool, yes: &[u8], no: &[u8]) -> io::Result<()> {
     say(rt, label)?;
-    if good {
-        say(rt, b": sound\n")
-    } else {
-        say(rt, b": refused\n")
-    }
+    say(rt, if holds { yes } else { no })
+}
+
+fn verdict(rt: &impl Print, label: &[u8], good: bool) -> io::Result<()> {
+    either(rt, label, good, b": sound\n", b": refused\n")
 }
 
 fn fact(rt: &impl Print, label: &[u8], holds: bool) -> io::Result<()> {
-    say(rt, label)?;
-    if holds {
-        say(rt, b": yes\n")
-    } else {
-        say(rt, b": no\n")
-    }
+    either(rt, label, holds, b": yes\n", b": no\n")
 }
 
-// A word of the disk changed to a value, and back.
+// A word of an area changed to a value, what the area's rule says then, and the word put back.
+fn changed<F: Fn(&[u8]) -> bool>(
+    rt: &impl Print,
+    label: &[u8],
+    area: &mut [u8],
+    at: usize,
+    value: u64,
+    rule: F,
+) -> io::Result<()>
+    requires place { at + 8 ≤ length area.old }
+    requires rule { F.IsAlwaysCallable rule }
+{
+    let old = octets::u64_at(area, at);
+    octets::put_u64(area, at, value);
+    let printed = verdict(rt, label, rule(area));
+    octets::put_u64(area, at, old);
+    printed
+}
+
 fn on_disk(
     rt: &impl Print,
     label: &[u8],
@@ -44,14 +58,11 @@ fn on_disk(
 ) -> io::Result<()>
     requires { at + 8 ≤ 35616 }
 {
-    let old = octets::u64_at(disk, at);
-    octets::put_u64(disk, at, value);
-    let printed = verdict(rt, label, layout::is_sound_disk(disk));
-    octets::put_u64(disk, at, old);
-    printed
+    changed(rt, label, disk, at, value, |area| {
+        layout::is_sound_disk(area)
+    })
 }
 
-// A word of the session changed to a value, and back.
 fn on_session(
     rt: &impl Print,
     label: &[u8],
@@ -61,26 +72,35 @@ fn on_session(
 ) -> io::Result<()>
     requires { at + 8 ≤ 38728 }
 {
-    let old = octets::u64_at(session, at);
-    octets::put_u64(session, at, value);
-    let printed = verdict(rt, label, layout::is_sound_session(session));
-    octets::put_u64(session, at, old);
-    printed
+    changed(rt, label, session, at, value, |area| {
+        layout::is_sound_session(area)
+    })
 }
 
-// The first n bytes of a disk, or of a session.
-fn front_of_disk(rt: &impl Print, label: &[u8], disk: &[u8], n: usize) -> io::Result<()> {
-    if n <= disk.len() {
-        verdict(rt, label, layout::is_sound_disk(&disk[..n]))?;
+// What an area's rule says of its first n bytes.
+fn front<F: Fn(&[u8]) -> bool>(
+    rt: &impl Print,
+    label: &[u8],
+    area: &[u8],
+    n: usize,
+    rule: F,
+) -> io::Result<()>
+    requires { F.IsAlwaysCallable rule }
+{
+    if n <= area.len() {
+        verdict(rt, label, rule(&area[..n]))?;
     }
     Ok(())
+}
+
+fn front_of_disk(rt: &impl Print, label: &[u8], disk: &[u8], n: usize) -> io::Result<()> {
+    front(rt, label, disk, n, |area| layout::is_sound_disk(area))
 }
 
 fn front_of_session(rt: &impl Print, label: &[u8], session: &[u8], n: usize) -> io::Result<()> {
-    if n <= session.len() {
-        verdict(rt, label, layout::is_sound_session(&session[..n]))?;
-    }
-    Ok(())
+    front(rt, label, session, n, |area| {
+        layout::is_sound_session(area)
+    })
 }
 
 // A disk that is just long enough for its 8 slots.

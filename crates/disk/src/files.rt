@@ -9,7 +9,8 @@ use layout::Disk;
 // A slot's row.
 #[derive(Clone, Copy, Debug, PartialEq, Eq)]
 pub struct Entry {
-    // The place of the directory that the file is in, plus 1; 0 if the slot is free.
+    // The place of the directory that the file is in, plus 1; 0 if the slot is free. No
+    // `Option`: `entry_of` and `put_entry` say the word as it stands.
     pub owner: usize,
     pub number: u64,
     // How many bytes the file has, at most 4,096.

@@ -16,7 +16,8 @@ fn side_at(side: Side) -> usize
     }
 }
 
-// Where a side's length stands.
+// Where a side's length stands. Beside `side_at`, as the area has them: a pair of both would be taken
+// apart at each use.
 fn side_len_at(side: Side) -> usize
     ensures { result ≡ side_len_at side }
 {

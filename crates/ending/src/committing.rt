@@ -72,13 +72,11 @@ fn commit_truncate(disk: &mut [u8], session: &mut [u8]) -> Result<u64, Refusal>
 
 // Commits an append or a truncate, and answers the new epoch. Refused: 1, 2, 18; on damaged memory 16
 // and 15 too.
-#[tactic(auto, unfolding(crate::specs::Committing::commit_call))]
+#[tactic(auto, unfolding(crate::specs::Committing::commit_call, beginning::specs::Transactions::check_usable))]
 pub fn commit(disk: &mut [u8], session: &mut [u8], transaction: u64) -> Result<u64, Refusal>
     ensures { commit_call disk.old session.old transaction ≡ outcome result disk.new session.new }
 {
-    if !beginning::is_usable(disk, session) {
-        return Err(Refusal::Unusable);
-    }
+    beginning::check_usable(disk, session)?;
     if staging::is_writing(session, transaction) {
         return commit_append(disk, session);
     }

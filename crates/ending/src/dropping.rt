@@ -21,7 +21,7 @@ fn revert(session: &mut [u8], tape: usize)
 {
     let ring = session::get_ring(session, tape);
     let staged = session::get_staged(session, tape);
-    let amount = components::above(staged.len, staged.base);
+    let amount = staged.len.saturating_sub(staged.base);
     unstage_tape(session, tape);
     session::put_ring(session, tape, ring.pop(amount));
 }
@@ -65,6 +65,7 @@ fn take_back(disk: &[u8], session: &mut [u8], tape: usize)
     }
 }
 
+// Its loop stays beside those of `steps.rt`, for their reason.
 fn drop_append(disk: &[u8], session: &mut [u8])
     requires { Sound disk.now × Begun session.old }
     ensures { session.new ≡ drop_append disk.now session.old }
@@ -94,13 +95,11 @@ fn drop_at(disk: &[u8], session: &mut [u8], place: usize)
 }
 
 // Gives up a transaction of any kind. Refused: 1, 2.
-#[tactic(auto, unfolding(crate::specs::Dropping::drop_transaction_call))]
+#[tactic(auto, unfolding(crate::specs::Dropping::drop_transaction_call, beginning::specs::Transactions::check_usable))]
 pub fn drop_transaction(disk: &[u8], session: &mut [u8], transaction: u64) -> Result<u64, Refusal>
     ensures { drop_transaction_call disk.now session.old transaction ≡ after result session.new }
 {
-    if !beginning::is_usable(disk, session) {
-        return Err(Refusal::Unusable);
-    }
+    beginning::check_usable(disk, session)?;
     let place = session::find_transaction(session, transaction).ok_or(Refusal::Unknown)?;
     drop_at(disk, session, place);
     Ok(0)

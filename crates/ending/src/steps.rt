@@ -1,5 +1,5 @@
 // The steps of a commit, each over all tapes.
-// The five loops that do so stay as they are: (d) a function that takes the step as a closure over both lent
+// The five loops that do so stay as they are: a function that takes the step as a closure over both lent
 // areas saves no line of `for tape in 0..Session::MOST_TAPES { step(.., tape); }`.
 ghost use Rattle.std.specs.Prelude.{◌≡◌, true, ◌+◌, ◌≤◌, ◌<◌, ◌^◌, length};
 ghost use Rattle.metadata.specs.Struct.{storable};

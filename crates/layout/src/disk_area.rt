@@ -113,7 +113,7 @@ impl Table<'_> {
     }
 
     // The same of eight slots. A loop of eight turns is unrolled, so that a slot costs its two tests
-    // and no more.
+    // and no more; a run of any length is not.
     fn eight_fit(&self, slot: usize) -> bool
         requires { slot + 8 ≤ slots self.now.disk.now }
         ensures { result ≡ all (entry_fits self.now.disk.now) 8 slot }

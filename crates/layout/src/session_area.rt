@@ -125,7 +125,8 @@ fn readers_joined(session: &[u8]) -> u64
 }
 
 // Whether each transaction place has a kind that may stand there: 0 is closed, 1 a reader; in the
-// writer's place 2 is an append and 3 a truncate.
+// writer's place 2 is an append and 3 a truncate: the words of the area (docs/LAYOUT.md), before they are
+// known to be kinds.
 fn kinds_fit(session: &[u8]) -> bool
     requires { 38728 ≤ length session.now }
     ensures { result ≡ all (kind_fits session.now) 17 0 }

@@ -127,6 +127,7 @@ fn parse_shift(line: &[u8]) -> Option<Call>
     })
 }
 
+// Beside `parse_shift`: its numbers are the call's fields by name, which is all that it has.
 fn parse_cut(line: &[u8]) -> Option<Call>
     ensures { result ≡ by_word (Some Word.Cut) (fields line.now) }
 {
@@ -171,6 +172,7 @@ fn parse_commit(line: &[u8]) -> Option<Call>
     Some(Call::Commit { transaction })
 }
 
+// Beside `parse_commit`, for the same reason.
 fn parse_drop(line: &[u8]) -> Option<Call>
     ensures { result ≡ by_word (Some Word.Drop) (fields line.now) }
 {

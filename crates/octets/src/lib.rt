@@ -33,7 +33,8 @@ pub fn u64_at(s: &[u8], at: usize) -> u64
     ])
 }
 
-// The number in the four bytes of s from at on.
+// The number in the four bytes of s from at on. No generic over the width, here and in `put_u32`: each
+// body is one call of std's function for its type.
 pub fn u32_at(s: &[u8], at: usize) -> u32
     requires { at + 4 ≤ length s.now }
     ensures { result ≡ num_at 4 s.now at }
@@ -57,7 +58,8 @@ pub fn put_u32(s: &mut [u8], at: usize, v: u32)
     s[at..at + 4].copy_from_slice(&v.to_le_bytes());
 }
 
-// src, copied into s from at on.
+// src, copied into s from at on. This and the three below are one call of std's each; they stand under
+// the definitions that every contract above cites.
 pub fn copy_in(s: &mut [u8], at: usize, src: &[u8])
     requires { at + length src.now ≤ length s.old }
     ensures { s.new ≡ put s.old at src.now }

@@ -49,7 +49,7 @@ fn open_in(disk: &mut [u8], session: &mut [u8], o: Shaped, at: Spot) -> Result<u
     open_now(disk, session, o, at)
 }
 
-// What `tape` is asked here and below stays in the clauses: (d) a struct round the option, with this as its
+// What `tape` is asked here and below stays in the clauses: a struct round the option, with this as its
 // invariant, would stand between it and `map_or`, `is_some_and`, `or_else` and `find_tape`.
 fn view_found(session: &[u8], tape: Option<usize>) -> View
     requires { Begun session.now × ((p : ℕ) → tape ≡ Some p → p < 8) }
@@ -110,7 +110,7 @@ fn open_on(
 
 // Opens a tape and answers its handle's number; a new one begins at the given start, in bytes.
 // Refused: 1, 2, 6, 8, 10, 8, 7, 8, 9, 5, 16, 18.
-#[tactic(auto, unfolding(crate::specs::Calls::open_call))]
+#[tactic(auto, unfolding(crate::specs::Calls::open_call, beginning::specs::Transactions::check_usable))]
 pub fn open(
     disk: &mut [u8],
     session: &mut [u8],
@@ -123,9 +123,7 @@ pub fn open(
 ) -> Result<u64, Refusal>
     ensures { open_call disk.old session.old transaction name.now entry file_size cache start ≡ outcome result disk.new session.new }
 {
-    if !beginning::is_usable(disk, session) {
-        return Err(Refusal::Unusable);
-    }
+    beginning::check_usable(disk, session)?;
     if !staging::is_writing(session, transaction) {
         return Err(Refusal::Unknown);
     }

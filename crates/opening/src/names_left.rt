@@ -18,7 +18,7 @@ fn is_directory(disk: &[u8], place: usize) -> bool
     !name.is_empty() && disk::find_directory(disk, name) == Some(place)
 }
 
-// The same of a tape place.
+// The same of a tape place: two calls of another crate, and the fact that they ask for.
 #[tactic(auto, unfolding(crate::specs::NamesLeft::is_named))]
 fn is_tape(session: &[u8], tape: usize) -> bool
     requires { Begun session.now × (tape < 8) }

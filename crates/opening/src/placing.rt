@@ -36,7 +36,7 @@ pub fn cached_count(o: Opening) -> usize
     if !o.listed {
         return 0;
     }
-    components::above(o.len, cached_from(o)) as usize
+    o.len.saturating_sub(cached_from(o)) as usize
 }
 
 // Ring, staged record and handle of a tape in a place; the handle has the next number.

@@ -12,7 +12,8 @@ pub struct Opening {
     pub entry: u64,
     pub file_size: u64,
     pub cache: u64,
-    // Whether the append's view has it; then its length and start are the view's, else the given start.
+    // Whether the append's view has it; then its length and start are the view's, else the given start. No
+    // `Option` of the two: they stand in both cases.
     pub listed: bool,
     pub len: u64,
     pub start: u64,

@@ -84,7 +84,8 @@ impl RingBuffer {
         }
     }
 
-    // The same four by value, for a ring that stands in the session's bytes.
+    // The same four by value, for a ring that stands in the session's bytes. docs/DECISIONS.md names both
+    // forms, and must-fail edits hold both.
     pub fn push(mut self, n: usize, missed: u64) -> Self
         requires { Sound self self.capacity × (n ≤ self.capacity) }
         ensures { result ≡ pushed self n missed }

@@ -6,7 +6,7 @@ ghost use Rattle.session.specs.Rows.{side_for, side_word, head_of, put_head};
 use layout::Session;
 use metadata::Side;
 
-#[derive(Clone, Copy)]
+#[derive(Clone, Copy, Debug, PartialEq, Eq)]
 pub struct Head {
     // That of the last commit.
     pub epoch: u64,
@@ -20,7 +20,8 @@ pub struct Head {
     pub last_handle: u64,
 }
 
-// The sides' numbers are the area's (docs/LAYOUT.md), and `Side` is the metadata's, so no `From` stands here.
+// The sides' numbers are the area's (docs/LAYOUT.md), and `Side` is the metadata's, so no `From` stands here; a type of this crate
+// round it would be no plainer.
 fn side_for(word: u64) -> Side
     ensures { result ≡ side_for word }
 {

@@ -20,7 +20,8 @@ pub fn is_writer(session: &[u8], kind: Kind, transaction: u64) -> bool
     row.kind == kind && row.number == transaction
 }
 
-// Whether the open append has this number.
+// Whether the open append has this number. This and the next say `writes` and `cuts`, which the calls'
+// definitions cite; a call of `is_writer` in their place would leave that to each proof.
 pub fn is_writing(session: &[u8], transaction: u64) -> bool
     requires { session_bytes ≤ length session.now }
     ensures { result ≡ writes session.now transaction }

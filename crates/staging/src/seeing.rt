@@ -67,7 +67,7 @@ pub fn tape_len(disk: &[u8], session: &[u8], transaction: u64, handle: u64) -> R
     Ok(in_entries(session, tape, view.len))
 }
 
-// A tape's start, in entries. Refused: 1, 2, 11.
+// A tape's start, in entries; it shares all with `tape_len` but the field. Refused: 1, 2, 11.
 pub fn tape_start(
     disk: &[u8],
     session: &[u8],
