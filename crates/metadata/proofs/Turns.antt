@@ -14,6 +14,7 @@ use Rattle.octets.specs.Bytes.{put, put-append}
 use Rattle.octets.specs.Number.{length-le}
 use Rattle.borsh.specs.Encoding.{u32, u64, vec, each, sorted_map}
 use Rattle.borsh.specs.Laws.{length-vec, each_append}
+use Rattle.metadata.specs.contracts.list.TapeMetadata.{the_type}
 use Rattle.metadata.specs.declared.list.TapeMetadata.{TapeMetadata}
 use Rattle.metadata.specs.declared.list.TapeList.{TapeList}
 use Rattle.metadata.specs.Tapes.{Tape, encode_tape, encode_list, fits}
@@ -23,6 +24,10 @@ use Rattle.metadata.specs.StructLaws.{storable-count, storable-tapes, storable-l
 -- what is read past the end of an array of tapes
 abbrev pub none : TapeMetadata
 none = record { letters = 0; name = []; len = 0; start = 0 }
+
+-- the struct's array has eight tapes: what a parameter's relation says of them, of which it holds each in the machine's form
+pub eight : (ts : List TapeMetadata) → length (map the_type.to ts) ≡ 8 → length ts ≡ 8
+eight ts e = sym (length-map ts the_type.to) ∙ e
 
 -- a name that lies in its array is no longer than that
 pub short-name : (t : TapeMetadata) → t.letters ≤ 24 → length (meaning t).name ≤ 24
@@ -92,21 +97,24 @@ module _ (ts : List TapeMetadata) where
       (length-append (each encode_tape (map meaning a)) (each encode_tape (map meaning b))) in
       omega arith
 
--- a list that may be stored, of which the code goes through the first tapes
+-- a list, of which the code goes through the first tapes
+module _ (l : TapeList) where
+  firsts-all : l.count ≤ length l.tapes → encode_list (tapes_of l) ≡ u32 l.count ++ firsts (take l.count l.tapes) l.count
+  unfolding firsts encode_list sorted_map tapes_of
+  firsts-all h =
+      let ts = take l.count l.tapes in
+      let shown : length ts ≡ l.count = length-take-le l.count l.tapes h in
+      let size : length (map meaning ts) ≡ l.count = length-map ts meaning ∙ shown in
+      let all : take l.count ts ≡ ts = take_all l.count ts (omega (arith, shown)) in
+      rw (all, size)
+
+-- one that may be stored
 module _ (l : TapeList) (e : storable l ≡ true) (long : length l.tapes ≡ 8) where
   pub shown-length : length (take l.count l.tapes) ≡ l.count
   shown-length = length-take-le l.count l.tapes (omega (arith, storable-count l e))
 
-  firsts-all : encode_list (tapes_of l) ≡ u32 l.count ++ firsts (take l.count l.tapes) l.count
-  unfolding firsts encode_list sorted_map tapes_of
-  firsts-all =
-      let ts = take l.count l.tapes in
-      let size : length (map meaning ts) ≡ l.count = length-map ts meaning ∙ shown-length in
-      let all : take l.count ts ≡ ts = take_all l.count ts (omega (arith, shown-length)) in
-      rw (all, size)
-
   pub length-all : length (encode_list (tapes_of l)) ≡ 4 + length (firsts (take l.count l.tapes) l.count)
-  length-all = rw firsts-all (length-append (u32 l.count) (firsts (take l.count l.tapes) l.count) ∙ rw length-le)
+  length-all = rw (firsts-all l (omega (arith, storable-count l e))) (length-append (u32 l.count) (firsts (take l.count l.tapes) l.count) ∙ rw length-le)
 
   module _ (i : ℕ) (d : TapeMetadata) (h : i < l.count) where
     pub tape-letters : (get_or (take l.count l.tapes) i d).letters ≤ 24
@@ -144,6 +152,6 @@ put-more ts i d s a b at h p x y =
     let tape = encode_tape (meaning (get_or ts i d)) in
     sym (rw (firsts_more ts i d h) (put-append s 4 (firsts ts i) tape ∙ rw (← x, ← p) (sym y)))
 
-pub put_all : (l : TapeList) (s a b : List ℕ) → storable l ≡ true → length l.tapes ≡ 8 → a ≡ put s 0 (u32 l.count) → b ≡ put a 4 (firsts (take l.count l.tapes) l.count) → b ≡ put s 0 (encode_list (tapes_of l))
-put_all l s a b e long x y =
-    sym (rw (firsts-all l e long) (put-append s 0 (u32 l.count) (firsts (take l.count l.tapes) l.count) ∙ rw (← x, length-le 4 l.count) (sym y)))
+pub put_all : (l : TapeList) (s a b : List ℕ) → l.count ≤ length l.tapes → a ≡ put s 0 (u32 l.count) → b ≡ put a 4 (firsts (take l.count l.tapes) l.count) → b ≡ put s 0 (encode_list (tapes_of l))
+put_all l s a b h x y =
+    sym (rw (firsts-all l h) (put-append s 0 (u32 l.count) (firsts (take l.count l.tapes) l.count) ∙ rw (← x, length-le 4 l.count) (sym y)))

@@ -58,16 +58,19 @@ pub fn put_u32(s: &mut [u8], at: usize, v: u32)
     s[at..at + 4].copy_from_slice(&v.to_le_bytes());
 }
 
-// src, copied into s from at on. This and the three below are one call of std's each; they stand under
-// the definitions that every contract above cites.
+// src, copied into s from at on. No `copy_from_slice`: it was tried, and the archive for C then asks the
+// C library for `memmove` too, beside `memcpy` and `memset`.
 pub fn copy_in(s: &mut [u8], at: usize, src: &[u8])
     requires { at + length src.now ≤ length s.old }
     ensures { s.new ≡ put s.old at src.now }
 {
-    s[at..at + src.len()].copy_from_slice(src);
+    for (j, byte) in src.iter().enumerate() {
+        s[at + j] = *byte;
+    }
 }
 
-// Zeros in s from one place up to another; none where the second is not above the first.
+// Zeros in s from one place up to another; none where the second is not above the first. This and the two
+// below are one call of std's each; they stand under the definitions that every contract above cites.
 pub fn fill_zero(s: &mut [u8], from: usize, to: usize)
     requires { to ≤ length s.old }
     ensures { s.new ≡ put s.old from (replicate (to - from) 0) }

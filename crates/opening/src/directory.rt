@@ -7,17 +7,16 @@ ghost use Rattle.layout.specs.Session.{session_bytes};
 ghost use Rattle.rolling_tape.specs.Removal.{areas};
 ghost use Rattle.opening.specs.Directory.{taken_files, emptied, added, readied};
 
-use crate::shape::Shaped;
+use crate::shape::Opening;
 use rolling_tape::Change;
 
 // A known tape's files are tracked up to that of its length, and those below its start's are marked and
 // removed. No reader is heeded, since all of them have this start.
 #[tactic(auto, unfolding(crate::specs::Directory::taken_files))]
-fn take_files(disk: &mut [u8], session: &mut [u8], place: usize, shaped: Shaped, began: u64)
-    requires { (Sound disk.old × (session_bytes ≤ length session.old)) × (place < 8) }
-    ensures { taken_files (areas disk.old session.old) place shaped.entry.opening began ≡ areas disk.new session.new }
+fn take_files(disk: &mut [u8], session: &mut [u8], place: usize, o: Opening, began: u64)
+    requires { (Sound disk.old × (session_bytes ≤ length session.old)) × ((place < 8) × (0 < o.file_size)) }
+    ensures { taken_files (areas disk.old session.old) place o began ≡ areas disk.new session.new }
 {
-    let o = shaped.opening;
     let last = components::file_of(o.file_size, o.len);
     rolling_tape::retrack(disk, session, place, Change::TrackUpTo(last));
     let number = components::file_of(o.file_size, o.start);
@@ -51,13 +50,22 @@ fn add(disk: &mut [u8], session: &mut [u8], name: &[u8])
     disk::add_directory(disk, name);
 }
 
-pub fn ready(disk: &mut [u8], session: &mut [u8], o: Shaped, began: u64, directory: Option<usize>)
-    requires { (Sound disk.old × (session_bytes ≤ length session.old)) × ((place : ℕ) → directory ≡ Some place → place < 8) }
-    ensures { readied (areas disk.old session.old) o.entry.name.now o.entry.opening began directory ≡ areas disk.new session.new }
+// It takes name and opening apart, not `Shaped`, since it asks for no more than it needs: a name of at most
+// 24 bytes and a file size above 0.
+pub fn ready(
+    disk: &mut [u8],
+    session: &mut [u8],
+    name: &[u8],
+    o: Opening,
+    began: u64,
+    directory: Option<usize>,
+)
+    requires { (Sound disk.old × (session_bytes ≤ length session.old)) × (((length name.now ≤ 24) × (0 < o.file_size)) × ((place : ℕ) → directory ≡ Some place → place < 8)) }
+    ensures { readied (areas disk.old session.old) name.now o began directory ≡ areas disk.new session.new }
 {
     match directory {
-        Some(place) if o.opening.listed => take_files(disk, session, place, o, began),
+        Some(place) if o.listed => take_files(disk, session, place, o, began),
         Some(place) => empty(disk, session, place),
-        None => add(disk, session, o.name),
+        None => add(disk, session, name),
     }
 }

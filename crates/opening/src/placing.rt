@@ -91,7 +91,7 @@ fn open_with(
 {
     let writer = session::get_transaction(session, Session::WRITER);
     let number = session::get_head(session).last_handle + 1;
-    ready(disk, session, o, writer.epoch, at.directory);
+    ready(disk, session, o.name, o.opening, writer.epoch, at.directory);
     session::put_tape_name(session, at.tape, o.name);
     put_row(session, at.tape, o.opening, src);
     Ok(number)

@@ -32,17 +32,20 @@ fn append(
     appending::append_entries(disk, session, transaction, handle, &space[..n])
 }
 
-// Whatever the line asks for; a read asks for nothing here.
+// Whatever the line asks for; a read, and a line that can't be read, ask for nothing here.
 pub fn make(
     disk: &mut [u8],
     session: &mut [u8],
     line: &[u8],
-    call: Call,
+    call: Option<Call>,
     space: &mut [u8],
 ) -> Result<u64, Refusal>
     requires { (length line.now ≤ 8500) × (4250 ≤ length space.old) }
-    ensures { (made disk.old session.old line.now (Some call) ≡ outcome result disk.new session.new) × (space.new ≡ kept line.now space.old (Some call)) }
+    ensures { (made disk.old session.old line.now call ≡ outcome result disk.new session.new) × (space.new ≡ kept line.now space.old call) }
 {
+    let Some(call) = call else {
+        return Ok(0);
+    };
     match call {
         Call::Format => beginning::format(disk, session, SLOTS),
         Call::Store => beginning::store(disk, session),

@@ -89,7 +89,7 @@ pub fn reply(
             out,
         ),
         _ => {
-            let answer = make(disk, session, line, call, space);
+            let answer = make(disk, session, line, Some(call), space);
             reply_with(answer, number, out)
         }
     }

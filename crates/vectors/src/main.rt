@@ -3,7 +3,7 @@
 // what they must be: the RFC's own two values, and the rest from Python's hashlib.
 #![tactic(auto)]
 
-ghost use Rattle.std.specs.Prelude.{◌≡◌, ◌+◌, ◌*◌, ◌<◌, ◌≤◌, length};
+ghost use Rattle.std.specs.Prelude.{◌≡◌, ◌*◌, ◌≤◌, length, IfOk};
 
 use std::io;
 
@@ -45,36 +45,41 @@ fn show(rt: &impl Print, digest: &mut [u8], key: &[u8], message: &[u8]) -> io::R
     }
 }
 
-// Two digests of nn bytes of one message of appendix E, unkeyed and keyed.
-fn one_message(rt: &impl Print, digests: &mut [u8], nn: usize, n: usize) -> io::Result<()>
-    requires room { nn ≤ length digests.old }
+// Two digests of nn bytes of one message of appendix E, unkeyed and keyed, to the front of digests.
+// Answers how many bytes they are.
+fn one_message(rt: &impl Print, digests: &mut [u8], nn: usize, n: usize) -> io::Result<usize>
+    requires room { 2 * nn ≤ length digests.old }
     requires digest { nn ≤ 64 }
     requires message { n ≤ 1024 }
+    ensures { IfOk result (λ done. done ≡ 2 * nn) }
 {
     let input = sequence(n as u32);
     let key = sequence(nn as u32);
-    let (plain, keyed) = digests.split_at_mut(nn);
+    let (plain, rest) = digests.split_at_mut(nn);
     show(rt, plain, b"", &input[..n])?;
-    show(rt, keyed, &key[..nn], &input[..n])
+    show(rt, &mut rest[..nn], &key[..nn], &input[..n])?;
+    Ok(2 * nn)
 }
 
-// The digests of one length, in appendix E's order of messages.
-fn one_length(rt: &impl Print, digests: &mut [u8], nn: usize) -> io::Result<()>
-    requires digest { (0 < nn) × (nn ≤ 64) }
+// The digests of one length, in appendix E's order of messages, to the front of digests. Answers how
+// many bytes they are.
+fn one_length(rt: &impl Print, digests: &mut [u8], nn: usize) -> io::Result<usize>
+    requires room { 12 * nn ≤ length digests.old }
+    requires digest { nn ≤ 64 }
+    ensures { IfOk result (λ done. done ≡ 12 * nn) }
 {
-    for (pair, n) in digests.chunks_exact_mut(2 * nn).zip(MESSAGES) {
-        one_message(rt, pair, nn, n)?;
+    let mut done = 0;
+    for n in MESSAGES {
+        done += one_message(rt, &mut digests[done..], nn, n)?;
     }
-    Ok(())
+    Ok(done)
 }
 
 fn appendix_e(rt: &impl Print) -> io::Result<()> {
     let mut all = [0u8; 1968];
-    let mut at = 0;
+    let mut done = 0;
     for nn in DIGESTS {
-        let next = at + 12 * nn;
-        one_length(rt, &mut all[at..next], nn)?;
-        at = next;
+        done += one_length(rt, &mut all[done..], nn)?;
     }
     let mut grand = [0u8; 32];
     print!(rt; "the hash of these hashes: ")?;

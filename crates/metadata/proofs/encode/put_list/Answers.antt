@@ -1,4 +1,4 @@
-use Rattle.std.proofs.Common.{◌≡◌, refl, sym, ap, ◌∙◌, List, ℕ, ◌+◌, arith, rules, length, get_or, take}
+use Rattle.std.proofs.Common.{◌≡◌, refl, sym, ap, ◌∙◌, List, ℕ, ◌+◌, ◌≤◌, arith, rules, length, get_or, take}
 use Rattle.octets.specs.Bytes.{put, length-put}
 use Rattle.borsh.specs.Encoding.{u32}
 use Rattle.metadata.specs.Tapes.{Tape, encode_list}
@@ -74,6 +74,7 @@ returns c =
     let ts = take c.args.list.count c.args.list.tapes in
     let end : c.loop-t.t-index ≡ c.args.list.count = omega arith in
     let start : c.u32.new.self.out.now ≡ put c.args.out.now 0 (u32 c.args.list.count) = rw (← c.new-w.ensures.bytes, ← c.new-w.ensures.place) c.u32.ensures.bytes in
+    let room : c.args.list.count ≤ length c.args.list.tapes = omega (arith, storable-count c.args.list c.requires.0) in
     let all : c.loop-t.w.out.now ≡ put c.args.out.now 0 (encode_list (tapes_of c.args.list))
-    = put_all c.args.list c.args.out.now c.u32.new.self.out.now c.loop-t.w.out.now c.requires.0 long start (c.loop-t.invariant.1.bytes ∙ ap (λ (i : ℕ). put c.u32.new.self.out.now 4 (firsts ts i)) end) in
+    = put_all c.args.list c.args.out.now c.u32.new.self.out.now c.loop-t.w.out.now room start (c.loop-t.invariant.1.bytes ∙ ap (λ (i : ℕ). put c.u32.new.self.out.now 4 (firsts ts i)) end) in
     grind (arith, all)
