@@ -69,8 +69,8 @@ impl<W: Write> Driver<W> {
     }
 
     // One read of the input, and the replies to the lines that end in it. Whether there were bytes.
-    // The line's end is told apart here: where each byte of a line came back with a `Result`, a long line
-    // took a third more time.
+    // The line's end is told apart here: where each byte of a line came back with a `Result`, long lines
+    // took half as much time again.
     fn read_some(&mut self, from: &mut impl Read) -> io::Result<bool> {
         let mut chunk = [0u8; 4096];
         let n = from.read(&mut chunk)?;
