@@ -2,9 +2,10 @@
 // comparisons. Everything above stores and reads through these functions, so that no other crate
 // takes a number apart into bytes.
 //
-// Each contract is an equation with a definition of `specs/`: `num_at` for what is read, `put` for
-// what is written (a number, a copy and a fill are each a `put`), `same_bytes` and `comes_before` for
-// comparisons. Proved, and nothing is assumed. The callers keep each place inside its slice.
+// Each contract over bytes is an equation with a definition of `specs/`: `num_at` for what is read,
+// `put` for what is written (a number, a copy and a fill are each a `put`), `same_bytes` and
+// `comes_before` for comparisons; `searches.rt` says what its own are. Proved, and nothing is assumed.
+// The callers keep each place inside its slice.
 #![tactic(auto)]
 
 mod searches;
